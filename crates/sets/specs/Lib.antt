@@ -1,0 +1,4 @@
+pub mod Members
+pub mod Tests
+pub mod Counting
+pub mod Bytes
