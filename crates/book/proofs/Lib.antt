@@ -1,0 +1,5 @@
+pub mod Pieces
+pub mod Values
+pub mod Fieldwise
+pub mod Cuts
+pub mod Encoded
