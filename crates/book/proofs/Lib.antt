@@ -3,3 +3,4 @@ pub mod Values
 pub mod Fieldwise
 pub mod Cuts
 pub mod Encoded
+pub mod Taken

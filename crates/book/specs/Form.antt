@@ -63,13 +63,33 @@ cutAs (Some p) n bs = extent p (n p) bs
 abbrev pub cut : Phase → (Phase → ℕ) → List ℕ → Cut
 cut p n bs = cutAs (opened p (getD bs 0 0)) n bs
 
--- what is wrong with a field that is present, by its bytes and the records before it
+-- what is wrong with the bytes of a field that is present, where numbers below n are declared
+abbrev pub wrongNames : ℕ → List ℕ → Option Refusal
+wrongNames n bs = cond (isEmpty (setOf bs)) (Some Empty) (cond (isBelow n (setOf bs)) None (Some Undeclared))
+
+abbrev pub wrongOperations : List ℕ → Option Refusal
+wrongOperations bs = cond (isEmpty (setOf bs)) (Some Empty) None
+
+abbrev pub wrongControlled : ℕ → List ℕ → Option Refusal
+wrongControlled n bs = cond (ltb (getD bs 0 0) n) None (Some Undeclared)
+
+abbrev pub wrongModifiers : List ℕ → Option Refusal
+wrongModifiers bs = cond (eqb (getD bs 0 0) 0) (Some Empty) (cond (leb (getD bs 0 0) 7) None (Some Undeclared))
+
+abbrev pub wrongDenials : List ℕ → Option Refusal
+wrongDenials bs = cond (isEmpty (setOf (take 8 bs)) && isEmpty (setOf (drop 8 bs))) (Some Empty) None
+
+-- the same, after the records that are there
 abbrev pub wrong : Contents → Field → List ℕ → Option Refusal
-wrong c (names p) bs = cond (isEmpty (setOf bs)) (Some Empty) (cond (isBelow (count p c) (setOf bs)) None (Some Undeclared))
-wrong c operations bs = cond (isEmpty (setOf bs)) (Some Empty) None
-wrong c controlled bs = cond (ltb (getD bs 0 0) (count Types c)) None (Some Undeclared)
-wrong c modifiers bs = cond (eqb (getD bs 0 0) 0) (Some Empty) (cond (leb (getD bs 0 0) 7) None (Some Undeclared))
-wrong c denials bs = cond (isEmpty (setOf (take 8 bs)) && isEmpty (setOf (drop 8 bs))) (Some Empty) None
+wrong c (names p) bs = wrongNames (count p c) bs
+wrong c operations bs = wrongOperations bs
+wrong c controlled bs = wrongControlled (count Types c) bs
+wrong c modifiers bs = wrongModifiers bs
+wrong c denials bs = wrongDenials bs
+
+-- what is wrong with the next field, of w bytes, where it is present
+abbrev pub wrongNext : (List ℕ → Option Refusal) → ℕ → ℕ → List ℕ → Option Refusal
+wrongNext test w m bs = cond (marked m) (test (take w bs)) None
 
 -- the bytes of the next field, none where the map lacks its bit
 abbrev pub piece : ℕ → ℕ → List ℕ → List ℕ
@@ -91,7 +111,7 @@ orElse None o = o
 -- what is wrong with the first field of which something is wrong
 abbrev pub firstWrong : Contents → List Field → ℕ → List ℕ → Option Refusal
 firstWrong c [] m bs = None
-firstWrong c (f ∷ fs) m bs = orElse (cond (marked m) (wrong c f (take (width f) bs)) None) (firstWrong c fs (m / 2) (behind (width f) m bs))
+firstWrong c (f ∷ fs) m bs = orElse (wrongNext (wrong c f) (width f) m bs) (firstWrong c fs (m / 2) (behind (width f) m bs))
 
 -- the records that fields make, at a place
 abbrev pub typeFrom : ℕ → List (List ℕ) → TypeRecord

@@ -6,3 +6,4 @@ pub mod Encoding
 pub mod Form
 pub mod FormRules
 pub mod FormLaws
+pub mod Reading

@@ -4,3 +4,4 @@ pub mod refusal;
 pub mod records;
 pub mod table;
 pub mod listing;
+mod fields;

@@ -1,6 +1,7 @@
 //! Sets of the numbers 0 to 63, kept as the bits of one word.
 ghost use mathlib.Core.Path.{_≡_};
 ghost use mathlib.Core.Bool.{true};
+ghost use mathlib.Core.List.{[]};
 ghost use mathlib.Core.Logic.{_⊎_};
 ghost use Prim.Native.Nat.{ℕ, _-_, _/_, _%_, _<_};
 ghost use lib.ListN.{getD};
@@ -19,7 +20,8 @@ pub struct NumberSet {
 impl NumberSet {
     /// The set with no member.
     pub fn empty() -> NumberSet
-        ensures { λ r. ⌜ ((k : ℕ) → In k r → ⊥) ⌝ }
+        ensures value { λ r. ⌜ r ≡ setOf [] ⌝ }
+        ensures members { λ r. ⌜ ((k : ℕ) → In k r → ⊥) ⌝ }
     {
         NumberSet { bits: 0 }
     }
