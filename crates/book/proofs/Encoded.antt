@@ -24,7 +24,7 @@ use Rattle.book.specs.declared.refusal.Fault.{Fault}
 use Rattle.book.specs.Layout.{kindOf, limit, layout, needsFirst}
 use Rattle.book.specs.Contents.{Record, aType, aRole, aGroup, aView, aSubject, count, phaseOf, placeOf}
 use Rattle.book.specs.Encoding.{fieldsOf, mapOf, together, encodeRecord, encode}
-use Rattle.book.specs.Form.{marked, span, pieces, firstWrong, Cut, whole, broken, cut, recordFrom, State, start, advanced, refused, prepended, afterFields, afterCut, recordsIn, form}
+use Rattle.book.specs.Form.{marked, span, pieces, firstWrong, Cut, whole, broken, cut, recordFrom, State, start, advanced, refused, prepended, afterFields, afterCut, recordsIn, afterOpening, form}
 use Rattle.book.specs.FormRules.{Next, Ordered, Formed}
 use Rattle.book.specs.FormLaws.{PassesAsEncoded}
 use Rattle.book.proofs.Pieces.{Fields, Fine, map-below, span-is, pieces-back, none-wrong, fine-pieces, map-back, together-back}
@@ -191,29 +191,26 @@ read-back (suc n) s (r ∷ rs) l u o =
 
 -- ---- the book as a whole
 
-two-tests : (a b : Bool) (x y : Fault) (o : Result (List Record) Fault) (rs : List Record) → cond a (Err x) (cond b (Err y) o) ≡ Ok rs → (a ≡ false) × (b ≡ false) × (o ≡ Ok rs)
-two-tests true b x y o rs e = absurd (not-ok x rs e)
-two-tests false true x y o rs e = absurd (not-ok y rs e)
-two-tests false false x y o rs e = (refl, refl, e)
-
-tests-passed : (a b : Bool) (x y o : Result (List Record) Fault) → a ≡ false → b ≡ false → cond a x (cond b y o) ≡ o
-tests-passed a b x y o p q = ap (λ t. cond t x (cond b y o)) p ∙ ap (λ t. cond t y o) q
+opens : (a b : Bool) (bs : List ℕ) (rs : List Record) → afterOpening (cond a (Some Size) (cond b (Some Version) None)) bs ≡ Ok rs
+    → (a ≡ false) × (b ≡ false) × (recordsIn (length bs) start (drop 1 bs) ≡ Ok rs)
+opens true b bs rs e = absurd (not-ok _ rs e)
+opens false true bs rs e = absurd (not-ok _ rs e)
+opens false false bs rs e = (refl, refl, e)
 
 passed : (bs : List ℕ) → Under 256 bs → (rs : List Record) → form bs ≡ Ok rs → (bs ≡ encode rs) × Formed rs
 passed [] u rs e = absurd (not-ok _ rs e)
 passed (b ∷ bs) u rs e =
-    let t = two-tests (eqb (length (b ∷ bs)) 0 || ltb 16384 (length (b ∷ bs))) (not (eqb b 1)) _ _ (recordsIn (length (b ∷ bs)) start bs) rs e in
-    let short = ltb-false 16384 (length (b ∷ bs)) (or-parts (eqb (length (b ∷ bs)) 0) (ltb 16384 (length (b ∷ bs))) (t .0) .1) in
-    let w = written (length (b ∷ bs)) start bs rs (omega arith) (u .1) (t .2) in
+    let n = length (b ∷ bs) in
+    let t = opens (eqb n 0 || ltb 16384 n) (not (eqb b 1)) (b ∷ bs) rs e in
+    let short = ltb-false 16384 n (or-parts (eqb n 0) (ltb 16384 n) (t .0) .1) in
+    let w = written n start bs rs (omega arith) (u .1) (t .2) in
     let same : b ∷ bs ≡ encode rs = ap₂ (λ x y. x ∷ y) (eqb-true b 1 (not-false (eqb b 1) (t .1))) (w .0) in
     (same, (w .1, subst (λ bs. length bs ≤ 16384) same short))
 
 encoded : (rs : List Record) → Under 256 (encode rs) → Formed rs → form (encode rs) ≡ Ok rs
 encoded rs u f =
-    let bs = joined encodeRecord rs in
     let n = length (encode rs) in
-    tests-passed (eqb n 0 || ltb 16384 n) false (refused Size 0) (refused Version 0) (recordsIn n start bs)
-    (or-from (eqb n 0) (ltb 16384 n) (ne-eqb n 0 (λ z. omega arith)) (le-ltb 16384 n (f .1))) refl
+    ap (λ t. afterOpening (cond t (Some Size) None) (encode rs)) (or-from (eqb n 0) (ltb 16384 n) (ne-eqb n 0 (λ z. omega arith)) (le-ltb 16384 n (f .1)))
     ∙ read-back n start rs (omega arith) (u .1) (f .0)
 
 pub passes-as-encoded : PassesAsEncoded

@@ -4,3 +4,5 @@ pub mod Fieldwise
 pub mod Cuts
 pub mod Encoded
 pub mod Taken
+pub mod Spans
+pub mod Handing

@@ -183,12 +183,20 @@ recordsIn zero s bs = Ok []
 recordsIn (suc n) s [] = Ok []
 recordsIn (suc n) s (b ∷ bs) = afterCut (recordsIn n) s (b ∷ bs) (cut (s .phase) (λ p. count p (s .contents)) (b ∷ bs))
 
+-- what is wrong with a book before its first record
+abbrev pub opening : List ℕ → Option Refusal
+opening bs =
+    cond (eqb (length bs) 0 || ltb 16384 (length bs)) (Some Size)
+    (cond (not (eqb (getD bs 0 0) 1)) (Some Version)
+     None)
+
+abbrev pub afterOpening : Option Refusal → List ℕ → Result (List Record) Fault
+afterOpening (Some r) bs = refused r 0
+afterOpening None bs = recordsIn (length bs) start (drop 1 bs)
+
 -- the records of a book, in its order, or its refusal; a book has no more records than bytes
 abbrev pub form : List ℕ → Result (List Record) Fault
-form bs =
-    cond (eqb (length bs) 0 || ltb 16384 (length bs)) (refused Size 0)
-    (cond (not (eqb (getD bs 0 0) 1)) (refused Version 0)
-     (recordsIn (length bs) start (drop 1 bs)))
+form bs = afterOpening (opening bs) bs
 
 -- the same, by the records' numbers, behind those that are there
 abbrev pub filing : Contents → Result (List Record) Fault → Result Contents Fault
