@@ -22,7 +22,7 @@ use Rattle.book.specs.declared.refusal.Refusal.{Refusal}
 use Rattle.book.specs.declared.refusal.Refusal.the-variants.{Size, Version}
 use Rattle.book.specs.declared.refusal.Fault.{Fault}
 use Rattle.book.specs.Layout.{kindOf, limit, layout, needsFirst}
-use Rattle.book.specs.Contents.{Record, aType, aRole, aGroup, aView, aSubject, count, phaseOf, placeOf}
+use Rattle.book.specs.Contents.{Record, AType, ARole, AGroup, AView, ASubject, count, phaseOf, placeOf}
 use Rattle.book.specs.Encoding.{fieldsOf, mapOf, together, encodeRecord, encode}
 use Rattle.book.specs.Form.{marked, span, pieces, firstWrong, Cut, whole, broken, cut, recordFrom, State, start, advanced, refused, prepended, afterFields, afterCut, recordsIn, afterOpening, form}
 use Rattle.book.specs.FormRules.{Next, Ordered, Formed}
@@ -129,11 +129,11 @@ written (suc n) s (k ∷ m ∷ bs) rs l u e =
 
 -- a view's map has the bit of its controlled type
 first-there : (r : Record) → needsFirst (phaseOf r) ≡ true → marked (mapOf (fieldsOf r)) ≡ true
-first-there (aType r) e = absurd (let z : _≡_ {A = ℕ} 0 1 = cc in omega arith)
-first-there (aRole r) e = absurd (let z : _≡_ {A = ℕ} 0 1 = cc in omega arith)
-first-there (aGroup r) e = absurd (let z : _≡_ {A = ℕ} 0 1 = cc in omega arith)
-first-there (aView r) e = eq-eqb _ _ (omega arith)
-first-there (aSubject r) e = absurd (let z : _≡_ {A = ℕ} 0 1 = cc in omega arith)
+first-there (AType r) e = absurd (let z : _≡_ {A = ℕ} 0 1 = cc in omega arith)
+first-there (ARole r) e = absurd (let z : _≡_ {A = ℕ} 0 1 = cc in omega arith)
+first-there (AGroup r) e = absurd (let z : _≡_ {A = ℕ} 0 1 = cc in omega arith)
+first-there (AView r) e = eq-eqb _ _ (omega arith)
+first-there (ASubject r) e = absurd (let z : _≡_ {A = ℕ} 0 1 = cc in omega arith)
 
 under-front : (xs ys : List ℕ) → Under 256 (xs ++ ys) → Under 256 xs
 under-front xs ys u = subst (Under 256) (take-at xs ys (length xs) refl) (all-take (λ d. d < 256) (length xs) (xs ++ ys) u)

@@ -10,7 +10,7 @@ use Rattle.sets.specs.declared.NumberSet.{NumberSet}
 use Rattle.book.specs.declared.phase.Phase.{Phase}
 use Rattle.book.specs.declared.phase.Phase.the-variants.{Types, Roles, Groups, Views, Subjects}
 use Rattle.book.specs.Layout.{layout, needsFirst}
-use Rattle.book.specs.Contents.{Record, aType, aRole, aGroup, aView, aSubject, Contents, phaseOf, placeOf}
+use Rattle.book.specs.Contents.{Record, AType, ARole, AGroup, AView, ASubject, Contents, phaseOf, placeOf}
 use Rattle.book.specs.Encoding.{fieldsOf, encodeRecord}
 use Rattle.book.specs.Form.{recordFrom}
 use Rattle.book.specs.FormRules.{Ranged}
@@ -86,19 +86,19 @@ from-fields c Subjects at (b0 ∷ b1 ∷ fs) g n = absurd (g .1)
 -- a record in range has fine fields, which make it again
 pub to-fields : (c : Contents) (r : Record) → Ranged c r → Under 256 (encodeRecord r)
     → Fields (Fine c) (layout (phaseOf r)) (fieldsOf r) × (recordFrom (phaseOf r) (placeOf r) (fieldsOf r) ≡ r)
-to-fields c (aType r) d u = (
+to-fields c (AType r) d u = (
   (names-stood c Types (r .supertypes) (d .0), (operations-stood c (r .operations) (d .1), tt)),
-  ap₂ (λ x y. aType (record { place = r .place; supertypes = x; operations = y })) (set-read (r .supertypes) (d .0 .0)) (set-read (r .operations) (d .1)),
+  ap₂ (λ x y. AType (record { place = r .place; supertypes = x; operations = y })) (set-read (r .supertypes) (d .0 .0)) (set-read (r .operations) (d .1)),
 )
-to-fields c (aRole r) d u = (
+to-fields c (ARole r) d u = (
   (names-stood c Roles (r .superroles) d, tt),
-  ap (λ x. aRole (record { place = r .place; superroles = x })) (set-read (r .superroles) (d .0)),
+  ap (λ x. ARole (record { place = r .place; superroles = x })) (set-read (r .superroles) (d .0)),
 )
-to-fields c (aGroup r) d u = (
+to-fields c (AGroup r) d u = (
   (names-stood c Groups (r .supergroups) (d .0), (names-stood c Roles (r .roles) (d .1), tt)),
-  ap₂ (λ x y. aGroup (record { place = r .place; supergroups = x; roles = y })) (set-read (r .supergroups) (d .0 .0)) (set-read (r .roles) (d .1 .0)),
+  ap₂ (λ x y. AGroup (record { place = r .place; supergroups = x; roles = y })) (set-read (r .supergroups) (d .0 .0)) (set-read (r .roles) (d .1 .0)),
 )
-to-fields c (aView r) d u =
+to-fields c (AView r) d u =
     let x1 = set-read (r .bases) (d .1 .0) in
     let x2 = set-read (r .required) (d .2 .0) in
     let x3 = set-read (r .restriction) (d .3 .0) in
@@ -126,7 +126,7 @@ to-fields c (aView r) d u =
           ),
         ),
       ),
-      λ i. aView (record {
+      λ i. AView (record {
         place = r .place;
         controlled = r .controlled;
         bases = x1 i;
@@ -137,7 +137,7 @@ to-fields c (aView r) d u =
         strong = record { permitted = x6 i; denied = x7 .1 i };
       }),
     )
-to-fields c (aSubject r) d u = (
+to-fields c (ASubject r) d u = (
   (names-stood c Groups (r .groups) d, tt),
-  ap (λ x. aSubject (record { place = r .place; groups = x })) (set-read (r .groups) (d .0)),
+  ap (λ x. ASubject (record { place = r .place; groups = x })) (set-read (r .groups) (d .0)),
 )

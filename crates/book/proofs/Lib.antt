@@ -6,3 +6,5 @@ pub mod Encoded
 pub mod Taken
 pub mod Spans
 pub mod Handing
+pub mod Tracking
+pub mod Steps

@@ -56,13 +56,13 @@ map-some (x ∷ b) fs l = refl
 
 -- one field of each recursion
 module _ (f : Field) (L : List Field) (m : ℕ) (bs : List ℕ) where
-  pieces-at : (t : Bool) → marked m ≡ t → pieces (f ∷ L) m bs ≡ cond t (take (width f) bs) [] ∷ pieces L (m / 2) (cond t (drop (width f) bs) bs)
+  pub pieces-at : (t : Bool) → marked m ≡ t → pieces (f ∷ L) m bs ≡ cond t (take (width f) bs) [] ∷ pieces L (m / 2) (cond t (drop (width f) bs) bs)
   pieces-at t e = ap (λ t. cond t (take (width f) bs) [] ∷ pieces L (m / 2) (cond t (drop (width f) bs) bs)) e
 
-  span-at : (t : Bool) → marked m ≡ t → span (f ∷ L) m ≡ cond t (width f) 0 + span L (m / 2)
+  pub span-at : (t : Bool) → marked m ≡ t → span (f ∷ L) m ≡ cond t (width f) 0 + span L (m / 2)
   span-at t e = ap (λ t. cond t (width f) 0 + span L (m / 2)) e
 
-  first-at : (c : Contents) (t : Bool) → marked m ≡ t
+  pub first-at : (c : Contents) (t : Bool) → marked m ≡ t
       → firstWrong c (f ∷ L) m bs ≡ orElse (cond t (wrong c f (take (width f) bs)) None) (firstWrong c L (m / 2) (cond t (drop (width f) bs) bs))
   first-at c t e = ap (λ t. orElse (cond t (wrong c f (take (width f) bs)) None) (firstWrong c L (m / 2) (cond t (drop (width f) bs) bs))) e
 

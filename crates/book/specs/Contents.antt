@@ -9,32 +9,26 @@ use Rattle.book.specs.declared.records.RoleRecord.{RoleRecord}
 use Rattle.book.specs.declared.records.GroupRecord.{GroupRecord}
 use Rattle.book.specs.declared.records.View.{View}
 use Rattle.book.specs.declared.records.SubjectRecord.{SubjectRecord}
+pub use Rattle.book.specs.declared.records.Record.{Record}
+pub use Rattle.book.specs.declared.records.Record.the-variants.{AType, ARole, AGroup, AView, ASubject}
 use Rattle.book.specs.declared.listing.Records.{Records}
 use Rattle.book.specs.Tables.{listed}
 
--- one record
-pub data Record : Type 0 where
-  aType : TypeRecord → Record
-  aRole : RoleRecord → Record
-  aGroup : GroupRecord → Record
-  aView : View → Record
-  aSubject : SubjectRecord → Record
-
 -- the kind of a record
 abbrev pub phaseOf : Record → Phase
-phaseOf (aType r) = Types
-phaseOf (aRole r) = Roles
-phaseOf (aGroup r) = Groups
-phaseOf (aView r) = Views
-phaseOf (aSubject r) = Subjects
+phaseOf (AType r) = Types
+phaseOf (ARole r) = Roles
+phaseOf (AGroup r) = Groups
+phaseOf (AView r) = Views
+phaseOf (ASubject r) = Subjects
 
 -- the place of a record
 abbrev pub placeOf : Record → ℕ
-placeOf (aType r) = r .place
-placeOf (aRole r) = r .place
-placeOf (aGroup r) = r .place
-placeOf (aView r) = r .place
-placeOf (aSubject r) = r .place
+placeOf (AType r) = r .place
+placeOf (ARole r) = r .place
+placeOf (AGroup r) = r .place
+placeOf (AView r) = r .place
+placeOf (ASubject r) = r .place
 
 -- the records of each kind, by their numbers
 pub record Contents : Type 0 where
@@ -58,11 +52,11 @@ count Subjects c = length (c .subjects)
 
 -- one record more: it gets the next number of its kind
 abbrev pub filed : Contents → Record → Contents
-filed c (aType r) = record { types = c .types ++ (r ∷ []); roles = c .roles; groups = c .groups; views = c .views; subjects = c .subjects }
-filed c (aRole r) = record { types = c .types; roles = c .roles ++ (r ∷ []); groups = c .groups; views = c .views; subjects = c .subjects }
-filed c (aGroup r) = record { types = c .types; roles = c .roles; groups = c .groups ++ (r ∷ []); views = c .views; subjects = c .subjects }
-filed c (aView r) = record { types = c .types; roles = c .roles; groups = c .groups; views = c .views ++ (r ∷ []); subjects = c .subjects }
-filed c (aSubject r) = record { types = c .types; roles = c .roles; groups = c .groups; views = c .views; subjects = c .subjects ++ (r ∷ []) }
+filed c (AType r) = record { types = c .types ++ (r ∷ []); roles = c .roles; groups = c .groups; views = c .views; subjects = c .subjects }
+filed c (ARole r) = record { types = c .types; roles = c .roles ++ (r ∷ []); groups = c .groups; views = c .views; subjects = c .subjects }
+filed c (AGroup r) = record { types = c .types; roles = c .roles; groups = c .groups ++ (r ∷ []); views = c .views; subjects = c .subjects }
+filed c (AView r) = record { types = c .types; roles = c .roles; groups = c .groups; views = c .views ++ (r ∷ []); subjects = c .subjects }
+filed c (ASubject r) = record { types = c .types; roles = c .roles; groups = c .groups; views = c .views; subjects = c .subjects ++ (r ∷ []) }
 
 -- many records more, in their order
 abbrev pub filedAll : Contents → List Record → Contents

@@ -8,7 +8,7 @@ use Rattle.sets.specs.declared.NumberSet.{NumberSet}
 use Rattle.sets.specs.Tests.{isEmpty}
 use Rattle.sets.specs.Bytes.{bytesOf}
 use Rattle.book.specs.Layout.{kindOf}
-use Rattle.book.specs.Contents.{Record, aType, aRole, aGroup, aView, aSubject, phaseOf}
+use Rattle.book.specs.Contents.{Record, AType, ARole, AGroup, AView, ASubject, phaseOf}
 
 -- a set as a field: eight bytes, or none where it is empty
 abbrev pub setField : NumberSet → List ℕ
@@ -24,10 +24,10 @@ byteField b = cond (eqb b 0) [] (b ∷ [])
 
 -- the bytes of each field of a record, from bit 0 of its map upwards
 abbrev pub fieldsOf : Record → List (List ℕ)
-fieldsOf (aType r) = setField (r .supertypes) ∷ setField (r .operations) ∷ []
-fieldsOf (aRole r) = setField (r .superroles) ∷ []
-fieldsOf (aGroup r) = setField (r .supergroups) ∷ setField (r .roles) ∷ []
-fieldsOf (aView r) =
+fieldsOf (AType r) = setField (r .supertypes) ∷ setField (r .operations) ∷ []
+fieldsOf (ARole r) = setField (r .superroles) ∷ []
+fieldsOf (AGroup r) = setField (r .supergroups) ∷ setField (r .roles) ∷ []
+fieldsOf (AView r) =
     (r .controlled ∷ [])
     ∷ setField (r .bases)
     ∷ setField (r .required)
@@ -37,7 +37,7 @@ fieldsOf (aView r) =
     ∷ setField (r .strong .permitted)
     ∷ pairField (r .weak .denied) (r .strong .denied)
     ∷ []
-fieldsOf (aSubject r) = setField (r .groups) ∷ []
+fieldsOf (ASubject r) = setField (r .groups) ∷ []
 
 -- the map has the bit of each field that has bytes
 abbrev pub mapOf : List (List ℕ) → ℕ

@@ -21,7 +21,7 @@ use Rattle.book.specs.declared.records.GroupRecord.{GroupRecord}
 use Rattle.book.specs.declared.records.View.{View}
 use Rattle.book.specs.declared.records.SubjectRecord.{SubjectRecord}
 use Rattle.book.specs.Layout.{kindOf, kindNamed, limit, Field, names, operations, controlled, modifiers, denials, layout, width, needsFirst}
-use Rattle.book.specs.Contents.{Record, aType, aRole, aGroup, aView, aSubject, Contents, nothing, count, filed, filedAll}
+use Rattle.book.specs.Contents.{Record, AType, ARole, AGroup, AView, ASubject, Contents, nothing, count, filed, filedAll}
 
 -- the kind of the next record after one of kind p: kinds never go down
 abbrev pub opened : Phase → ℕ → Option Phase
@@ -139,11 +139,11 @@ abbrev pub subjectFrom : ℕ → List (List ℕ) → SubjectRecord
 subjectFrom at fs = record { place = at; groups = setOf (getD fs 0 []) }
 
 abbrev pub recordFrom : Phase → ℕ → List (List ℕ) → Record
-recordFrom Types at fs = aType (typeFrom at fs)
-recordFrom Roles at fs = aRole (roleFrom at fs)
-recordFrom Groups at fs = aGroup (groupFrom at fs)
-recordFrom Views at fs = aView (viewFrom at fs)
-recordFrom Subjects at fs = aSubject (subjectFrom at fs)
+recordFrom Types at fs = AType (typeFrom at fs)
+recordFrom Roles at fs = ARole (roleFrom at fs)
+recordFrom Groups at fs = AGroup (groupFrom at fs)
+recordFrom Views at fs = AView (viewFrom at fs)
+recordFrom Subjects at fs = ASubject (subjectFrom at fs)
 
 -- how far a reading has come: the kind of the last record, the place of the next, and the records so far
 pub record State : Type 0 where

@@ -8,7 +8,7 @@ use Rattle.sets.specs.Members.{In}
 use Rattle.book.specs.declared.phase.Phase.{Phase}
 use Rattle.book.specs.declared.phase.Phase.the-variants.{Types, Roles, Groups, Views, Subjects}
 use Rattle.book.specs.Layout.{kindOf, limit}
-use Rattle.book.specs.Contents.{Record, aType, aRole, aGroup, aView, aSubject, Contents, count, phaseOf, placeOf}
+use Rattle.book.specs.Contents.{Record, AType, ARole, AGroup, AView, ASubject, Contents, count, phaseOf, placeOf}
 use Rattle.book.specs.Encoding.{encodeRecord, encode}
 use Rattle.book.specs.Form.{State, start, advanced}
 
@@ -22,10 +22,10 @@ Declared c p s = Word s × ((k : ℕ) → In k s → k < count p c)
 
 -- the fields of a record are in range, and name only what is declared before it
 abbrev pub Ranged : Contents → Record → Type 0
-Ranged c (aType r) = Declared c Types (r .supertypes) × Word (r .operations)
-Ranged c (aRole r) = Declared c Roles (r .superroles)
-Ranged c (aGroup r) = Declared c Groups (r .supergroups) × Declared c Roles (r .roles)
-Ranged c (aView r) =
+Ranged c (AType r) = Declared c Types (r .supertypes) × Word (r .operations)
+Ranged c (ARole r) = Declared c Roles (r .superroles)
+Ranged c (AGroup r) = Declared c Groups (r .supergroups) × Declared c Roles (r .roles)
+Ranged c (AView r) =
     (r .controlled < count Types c)
     × Declared c Views (r .bases)
     × Declared c Views (r .required)
@@ -35,7 +35,7 @@ Ranged c (aView r) =
     × Word (r .strong .permitted)
     × Word (r .weak .denied)
     × Word (r .strong .denied)
-Ranged c (aSubject r) = Declared c Groups (r .groups)
+Ranged c (ASubject r) = Declared c Groups (r .groups)
 
 -- a record that may come next
 pub record Next (s : State) (r : Record) : Type 0 where

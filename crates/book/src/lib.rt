@@ -6,3 +6,4 @@ pub mod table;
 pub mod listing;
 mod fields;
 pub mod reader;
+pub mod read;

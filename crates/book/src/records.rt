@@ -79,3 +79,13 @@ pub struct SubjectRecord {
     pub place: usize,
     pub groups: NumberSet,
 }
+
+/// One record of a book.
+#[derive(Clone, Copy, PartialEq, Eq, Debug)]
+pub enum Record {
+    AType(TypeRecord),
+    ARole(RoleRecord),
+    AGroup(GroupRecord),
+    AView(View),
+    ASubject(SubjectRecord),
+}

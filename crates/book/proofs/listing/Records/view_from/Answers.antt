@@ -6,7 +6,7 @@ use Rattle.sets.specs.declared.NumberSet.{NumberSet}
 use Rattle.book.specs.declared.phase.Phase.the-variants.{Views, Roles}
 use Rattle.book.specs.declared.records.View.{View}
 use Rattle.book.specs.Layout.{names, operations, controlled, modifiers, denials}
-use Rattle.book.specs.Contents.{contentsOf}
+use Rattle.book.specs.Contents.{contentsOf, AView}
 use Rattle.book.specs.Form.{wrongNext, wrongControlled, wrongNames, viewFrom, piece}
 use Rattle.book.proofs.Taken.{own-length, length-left, wrong-left, pieces-left}
 use Rattle.book.proofs.listing.Records.view_from.Needs as need
@@ -115,4 +115,4 @@ returns c =
       weak = record { permitted = v5 i; denied = v7 i .0 };
       strong = record { permitted = v6 i; denied = v7 i .1 };
     } in
-    (n0 ∙ n1 ∙ n2 ∙ n3 ∙ n4 ∙ n5 ∙ n6 ∙ n7, is-made ∙ ap (viewFrom (c .args .place)) (sym q0))
+    (n0 ∙ n1 ∙ n2 ∙ n3 ∙ n4 ∙ n5 ∙ n6 ∙ n7, ap AView (is-made ∙ ap (viewFrom (c .args .place)) (sym q0)))

@@ -1,0 +1,28 @@
+//! Reading a whole book.
+ghost use mathlib.Core.Path.{_≡_};
+ghost use Rattle.std.specs.declared.result.Result.the-variants.{Ok, Err};
+ghost use Rattle.std.specs.Results.{Cases};
+ghost use Rattle.book.specs.Contents.{contentsOf};
+ghost use Rattle.book.specs.Form.{reading};
+use crate::listing::Records;
+use crate::reader::Reader;
+use crate::reader::check_opening;
+use crate::refusal::Fault;
+
+/// The records of a book, or why and where its form is refused.
+pub fn read(book: &[u8]) -> Result<Records, Fault>
+    ensures { λ r. ⌜ Cases r (λ t. reading (now (book .entry)) ≡ Ok (contentsOf t)) (λ f. reading (now (book .entry)) ≡ Err f) ⌝ }
+{
+    if let Err(refusal) = check_opening(book) {
+        return Err(Fault { refusal, place: 0 });
+    }
+    let mut reader = Reader::new(book);
+    let mut records = Records::empty();
+    while let Some(part) = reader.next()? {
+        match records.made_of(part) {
+            Ok(record) => records.file(record),
+            Err(refusal) => return Err(Fault { refusal, place: part.place }),
+        }
+    }
+    Ok(records)
+}
