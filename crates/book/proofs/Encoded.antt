@@ -34,10 +34,10 @@ use Rattle.book.proofs.Cuts.{Extent, Whole, cut-whole, whole-cut, fit-below, n
 ok-same : (rs ss : List Record) → _≡_ {A = Result (List Record) Fault} (Ok rs) (Ok ss) → rs ≡ ss
 ok-same rs ss e = cc
 
-not-ok : (f : Fault) (rs : List Record) → _≡_ {A = Result (List Record) Fault} (Err f) (Ok rs) → ⊥
+pub not-ok : (f : Fault) (rs : List Record) → _≡_ {A = Result (List Record) Fault} (Err f) (Ok rs) → ⊥
 not-ok f rs e = let z : _≡_ {A = ℕ} 0 1 = cc in omega arith
 
-prepended-ok : (r : Record) (o : Result (List Record) Fault) (rs : List Record) → prepended r o ≡ Ok rs → (ss : List Record) × (o ≡ Ok ss) × (rs ≡ r ∷ ss)
+pub prepended-ok : (r : Record) (o : Result (List Record) Fault) (rs : List Record) → prepended r o ≡ Ok rs → (ss : List Record) × (o ≡ Ok ss) × (rs ≡ r ∷ ss)
 prepended-ok r (Ok ss) rs e = (ss, refl, sym (ok-same (r ∷ ss) rs e))
 prepended-ok r (Err f) rs e = absurd (not-ok f rs e)
 

@@ -8,3 +8,4 @@ pub mod Spans
 pub mod Handing
 pub mod Tracking
 pub mod Steps
+pub mod Parts

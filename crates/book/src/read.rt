@@ -4,6 +4,7 @@ ghost use Rattle.std.specs.declared.result.Result.the-variants.{Ok, Err};
 ghost use Rattle.std.specs.Results.{Cases};
 ghost use Rattle.book.specs.Contents.{contentsOf};
 ghost use Rattle.book.specs.Form.{reading};
+ghost use Rattle.book.specs.FormLaws.{PassesAsEncoded, PartsAreTheBook};
 use crate::listing::Records;
 use crate::reader::Reader;
 use crate::reader::check_opening;
@@ -11,7 +12,9 @@ use crate::refusal::Fault;
 
 /// The records of a book, or why and where its form is refused.
 pub fn read(book: &[u8]) -> Result<Records, Fault>
-    ensures { λ r. ⌜ Cases r (λ t. reading (now (book .entry)) ≡ Ok (contentsOf t)) (λ f. reading (now (book .entry)) ≡ Err f) ⌝ }
+    ensures records { λ r. ⌜ Cases r (λ t. reading (now (book .entry)) ≡ Ok (contentsOf t)) (λ f. reading (now (book .entry)) ≡ Err f) ⌝ }
+    ensures encoded { λ _. ⌜ PassesAsEncoded ⌝ }
+    ensures parts { λ _. ⌜ PartsAreTheBook ⌝ }
 {
     if let Err(refusal) = check_opening(book) {
         return Err(Fault { refusal, place: 0 });

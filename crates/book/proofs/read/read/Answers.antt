@@ -12,11 +12,13 @@ use Rattle.book.specs.declared.reader.Part.{Part}
 use Rattle.book.specs.declared.reader.Reader.{Reader}
 use Rattle.book.specs.declared.refusal.Fault.{Fault}
 use Rattle.book.specs.Layout.{limit, layout}
-use Rattle.book.specs.Contents.{contentsOf, count, filed, phaseOf}
-use Rattle.book.specs.Form.{reading, cut, broken, pieces, recordFrom}
+use Rattle.book.specs.Contents.{contentsOf, nothing, count, filed, phaseOf}
+use Rattle.book.specs.Form.{filing, afterOpening, reading, cut, broken, pieces, recordFrom}
 use Rattle.book.specs.FormLaws.{numbered}
 use Rattle.book.specs.Reading.{Handed}
 use Rattle.book.proofs.Fieldwise.{phase-from}
+use Rattle.book.proofs.Encoded.{passes-as-encoded}
+use Rattle.book.proofs.Parts.{parts-are-the-book}
 use Rattle.book.proofs.Steps.{Going, begins, going-there, ends, breaks, part-whole, part-room, fails, goes-on}
 use Rattle.book.proofs.read.read.Needs as need
 use Rattle.book.proofs.read.read.Needs.{In-Some}
@@ -29,6 +31,13 @@ loop-part-holds c =
       n .0,
       going-there book (reading book) _ _ _ _ _ _ _ _ (sym (n .1)) (sym (n .2)) (sym (n .3)) (sym (c .empty-records .ensures)) (begins book (c .in-rest .ensures tt .0)),
     )
+
+pub returns-in-Err : need.returns-in-Err
+returns-in-Err c = record {
+  records = ap (λ o. filing nothing (afterOpening o (c .args .book .now))) (c .in-Err .ensures tt);
+  encoded = passes-as-encoded;
+  parts = parts-are-the-book;
+}
 
 pub returns-in-Break-part : need.returns-in-Break-part
 returns-in-Break-part c =
@@ -43,8 +52,13 @@ returns-in-Break-part c =
     let result : reading book ≡ Err (record { refusal = f .refusal; place = r .at }) =
         breaks book (r .at) p n (contentsOf (c .loop-part .records)) (reading book) (c .loop-part .inv .1) (f .refusal)
         (subst (λ book. r .at < length book) b (h .0)) (subst (λ book. cut p (numbered p n) (drop (r .at) book) ≡ broken (f .refusal)) b (h .1)) in
-    subst (λ r. Cases r (λ t. reading book ≡ Ok (contentsOf t)) (λ f. reading book ≡ Err f)) (sym (e .1))
-    (result ∙ ap (λ at. Err (record { refusal = f .refusal; place = at })) (sym (h .2)) ∙ ap Err (sym (e .2)))
+    record {
+      records =
+        subst (λ r. Cases r (λ t. reading book ≡ Ok (contentsOf t)) (λ f. reading book ≡ Err f)) (sym (e .1))
+        (result ∙ ap (λ at. Err (record { refusal = f .refusal; place = at })) (sym (h .2)) ∙ ap Err (sym (e .2)));
+      encoded = passes-as-encoded;
+      parts = parts-are-the-book;
+    }
 
 -- what the reader handed out
 handed : (c : In-Some)
@@ -73,7 +87,8 @@ file-requires c κs =
     let room =
         part-room book (r .at) (r .section .phase) (r .section .number) all (reading book) (c .loop-part .inv .1) (part .phase) (part .place) (part .bytes .now)
         (handed (need.at·file-requires c .In-Some)) in
-    let kind : part .phase ≡ phaseOf (c .in-Ok .record) = sym (ap phaseOf (c .in-Ok .ensures tt .1) ∙ phase-from (part .phase) (part .place) _) in
+    let fs = pieces (layout (part .phase)) (getD (part .bytes .now) 1 0) (drop 2 (part .bytes .now)) in
+    let kind : part .phase ≡ phaseOf (c .in-Ok .record) = sym (ap phaseOf (c .in-Ok .ensures tt .1) ∙ phase-from (part .phase) (part .place) fs) in
     subst (λ q. count q all < limit q) kind room
 
 pub loop-part-again : need.loop-part-again
@@ -105,9 +120,10 @@ returns-in-Err-made-of c =
     let part = c .in-Some .part in
     let h = handed (need.at·returns-in-Err-made-of c .In-Some) in
     let e = c .in-Err-made-of .refusal in
-    fails book (r .at) (r .section .phase) (r .section .number) (contentsOf (c .loop-part .records)) (reading book) (c .loop-part .inv .1) (part .phase) (part .place) (part .bytes .now) h e
-    (c .in-Err-made-of .ensures tt)
-    ∙ ap (λ at. Err (record { refusal = e; place = at })) (sym (h .place-is))
+    let wrong =
+        fails book (r .at) (r .section .phase) (r .section .number) (contentsOf (c .loop-part .records)) (reading book) (c .loop-part .inv .1) (part .phase) (part .place) (part .bytes .now) h e
+        (c .in-Err-made-of .ensures tt) in
+    record { records = wrong ∙ ap (λ at. Err (record { refusal = e; place = at })) (sym (h .place-is)); encoded = passes-as-encoded; parts = parts-are-the-book }
 
 pub returns : need.returns
 returns c =
@@ -118,4 +134,8 @@ returns c =
     let Q : Part → Type 0 = λ x. Handed (r .book .now) (r .at) p n (x .phase) (x .place) (x .bytes .now) in
     let end = cases-at-none (r .at ≡ length (r .book .now)) Q (c .in-rest-2 .is) (c .in-Continue-part .ensures tt .cases) in
     let same = ap length (c .loop-part .inv .0) in
-    ends book (r .at) p n (contentsOf (c .loop-part .records)) (reading book) (c .loop-part .inv .1) (omega arith)
+    record {
+      records = ends book (r .at) p n (contentsOf (c .loop-part .records)) (reading book) (c .loop-part .inv .1) (omega arith);
+      encoded = passes-as-encoded;
+      parts = parts-are-the-book;
+    }
