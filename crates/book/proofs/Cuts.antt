@@ -76,8 +76,8 @@ named-kind : (k : ℕ) (q : Phase) → kindNamed k ≡ Some q → k ≡ kindOf q
 named-kind k q =
     chosen Types q (eqb k 1) _ k (eqb-true k 1)
     (chosen Roles q (eqb k 2) _ k (eqb-true k 2)
-     (chosen Groups q (eqb k 3) _ k (eqb-true k 3)
-      (chosen Views q (eqb k 4) _ k (eqb-true k 4) (chosen Subjects q (eqb k 5) _ k (eqb-true k 5) (λ e. absurd (let z : _≡_ {A = ℕ} 0 1 = cc in omega arith))))))
+    (chosen Groups q (eqb k 3) _ k (eqb-true k 3)
+    (chosen Views q (eqb k 4) _ k (eqb-true k 4) (chosen Subjects q (eqb k 5) _ k (eqb-true k 5) (λ e. absurd (let z : _≡_ {A = ℕ} 0 1 = cc in omega arith))))))
 
 only-some : (t : Bool) (o : Option Phase) (q : Phase) → cond t o None ≡ Some q → (t ≡ true) × (o ≡ Some q)
 only-some true o q e = (refl, e)

@@ -58,12 +58,11 @@ read-one s k m bs p size u w n =
     let room : span L m ≤ length bs = omega arith in
     let fine = fine-pieces (s .contents) L m bs room (u .1 .1) n in
     let made = from-fields (s .contents) p at fs fine (needed p m bs (x .fit) room) in
-    let e : size ≡ suc (suc (span L m)) = omega arith in
-    (
+    let e : size ≡ suc (suc (span L m)) = omega arith in (
       ap₂ (λ q fs. kindOf q ∷ mapOf fs ∷ together fs) (phase-from p at fs) (made .0)
-      ∙ ap₂ (λ k b. k ∷ mapOf fs ∷ b) (sym (w .kind)) (together-back L m bs)
-      ∙ ap (λ j. k ∷ j ∷ take (span L m) bs) (map-back L m bs room (fit-below p m (x .fit)))
-      ∙ ap (λ j. take j (k ∷ m ∷ bs)) (sym e),
+          ∙ ap₂ (λ k b. k ∷ mapOf fs ∷ b) (sym (w .kind)) (together-back L m bs)
+          ∙ ap (λ j. k ∷ j ∷ take (span L m) bs) (map-back L m bs room (fit-below p m (x .fit)))
+          ∙ ap (λ j. take j (k ∷ m ∷ bs)) (sym e),
       record {
         rising = subst (λ q. kindOf (s .phase) ≤ kindOf q) (sym (phase-from p at fs)) (w .rising);
         room = subst (λ q. count q (s .contents) < limit q) (sym (phase-from p at fs)) (x .room);
@@ -94,7 +93,7 @@ module _ (n : ℕ) (later : Written n) (s : State) (k m : ℕ) (bs : List ℕ) (
       let length-is : size ≡ length (encodeRecord r) = sym t ∙ ap length (sym (one .0)) in
       let then = later (advanced s size p r) rest (split .0) (omega arith) (all-drop (λ d. d < 256) size (k ∷ m ∷ bs) u) (split .1) in
       let order : Ordered (advanced s (length (encodeRecord r)) (phaseOf r) r) (split .0) =
-          subst (λ z. Ordered (advanced s z (phaseOf r) r) (split .0)) length-is (subst (λ q. Ordered (advanced s size q r) (split .0)) (sym (phase-from p (s .place) fs)) (then .1)) in
+      subst (λ z. Ordered (advanced s z (phaseOf r) r) (split .0)) length-is (subst (λ q. Ordered (advanced s size q r) (split .0)) (sym (phase-from p (s .place) fs)) (then .1)) in
       subst (λ rs. (k ∷ m ∷ bs ≡ joined encodeRecord rs) × Ordered s rs) (sym (split .2))
       (sym (take-append-drop size (k ∷ m ∷ bs)) ∙ ap₂ (λ x y. x ++ y) (sym (one .0)) (then .0), (one .1, order))
 

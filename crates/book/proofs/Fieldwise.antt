@@ -105,8 +105,7 @@ to-fields c (AView r) d u =
     let x4 = modifiers-read (r .modifiers) in
     let x5 = set-read (r .weak .permitted) (d .5) in
     let x6 = set-read (r .strong .permitted) (d .6) in
-    let x7 = denials-read (r .weak .denied) (r .strong .denied) (d .7) (d .8) in
-    (
+    let x7 = denials-read (r .weak .denied) (r .strong .denied) (d .7) (d .8) in (
       (
         controlled-stood c (r .controlled) (d .0) (u .1 .1 .0),
         (

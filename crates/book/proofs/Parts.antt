@@ -41,8 +41,8 @@ module _ (k : ℕ) (later : Joined k) (s : State) (n : ℕ) (b : ℕ) (bs : List
       let split = prepended-ok r (recordsIn k (advanced s size q r) (drop size (b ∷ bs))) rs h in
       let kind = phase-from q (s .place) fs in
       let tracks =
-          subst (λ q′. Tracks q′ (numbered (s .phase) n q′ + 1) (filed (s .contents) r)) kind
-          (tracks-more (s .phase) n (s .contents) r t (subst (λ q′. kindOf (s .phase) ≤ kindOf q′) (sym kind) (w .rising))) in
+      subst (λ q′. Tracks q′ (numbered (s .phase) n q′ + 1) (filed (s .contents) r)) kind
+      (tracks-more (s .phase) n (s .contents) r t (subst (λ q′. kindOf (s .phase) ≤ kindOf q′) (sym kind) (w .rising))) in
       ap (λ x. take size (b ∷ bs) ++ x) (later (advanced s size q r) (numbered (s .phase) n q + 1) (drop size (b ∷ bs)) (split .0) tracks (omega arith) (split .1))
       ∙ take-append-drop size (b ∷ bs)
 

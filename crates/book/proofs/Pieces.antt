@@ -117,8 +117,8 @@ module _ (Q : Field → List ℕ → Type 0) where
       let w = present Q f x b (g .0) .0 in
       pieces-at f L (1 + 2 * m) bs true (marked-odd m)
       ∙ ap₂ (λ p r. p ∷ pieces L ((1 + 2 * m) / 2) r)
-        (ap (take (width f)) e ∙ take-at (x ∷ b) (together fs ++ more) (width f) w)
-        (ap (drop (width f)) e ∙ drop-at (x ∷ b) (together fs ++ more) (width f) w)
+      (ap (take (width f)) e ∙ take-at (x ∷ b) (together fs ++ more) (width f) w)
+      (ap (drop (width f)) e ∙ drop-at (x ∷ b) (together fs ++ more) (width f) w)
       ∙ ap (λ k. (x ∷ b) ∷ pieces L k (together fs ++ more)) (half-odd m)
       ∙ ap (λ r. (x ∷ b) ∷ r) (pieces-back L fs more (g .1))
 
@@ -139,8 +139,8 @@ none-wrong c (f ∷ L) ((x ∷ b) ∷ fs) more g =
     let p = present (Fine c) f x b (g .0) in
     first-at f L (1 + 2 * m) bs c true (marked-odd m)
     ∙ ap₂ (λ p r. orElse (wrong c f p) (firstWrong c L ((1 + 2 * m) / 2) r))
-      (ap (take (width f)) e ∙ take-at (x ∷ b) (together fs ++ more) (width f) (p .0))
-      (ap (drop (width f)) e ∙ drop-at (x ∷ b) (together fs ++ more) (width f) (p .0))
+    (ap (take (width f)) e ∙ take-at (x ∷ b) (together fs ++ more) (width f) (p .0))
+    (ap (drop (width f)) e ∙ drop-at (x ∷ b) (together fs ++ more) (width f) (p .0))
     ∙ ap₂ (λ o k. orElse o (firstWrong c L k (together fs ++ more))) (p .1 .1) (half-odd m)
     ∙ none-wrong c L fs more (g .1)
 
@@ -155,16 +155,16 @@ fine-pieces c [] m bs l u n = tt
 fine-pieces c (f ∷ L) m bs l u n =
     ⊎-elim
     (λ t.
-        let w = width f in
-        let s = span-at f L m bs true t in
-        let o = orElse-none _ _ (sym (first-at f L m bs c true t) ∙ n) in
-        let len = length-drop w bs in
-        subst (Fields (Fine c) (f ∷ L)) (sym (pieces-at f L m bs true t))
-        (inr (length-take-le w bs (omega arith), (all-take (λ d. d < 256) w bs u, o .0)), fine-pieces c L (m / 2) (drop w bs) (omega arith) (all-drop (λ d. d < 256) w bs u) (o .1)))
+    let w = width f in
+    let s = span-at f L m bs true t in
+    let o = orElse-none _ _ (sym (first-at f L m bs c true t) ∙ n) in
+    let len = length-drop w bs in
+    subst (Fields (Fine c) (f ∷ L)) (sym (pieces-at f L m bs true t))
+    (inr (length-take-le w bs (omega arith), (all-take (λ d. d < 256) w bs u, o .0)), fine-pieces c L (m / 2) (drop w bs) (omega arith) (all-drop (λ d. d < 256) w bs u) (o .1)))
     (λ t.
-        let s = span-at f L m bs false t in
-        subst (Fields (Fine c) (f ∷ L)) (sym (pieces-at f L m bs false t))
-        (inl refl, fine-pieces c L (m / 2) bs (omega arith) u (sym (first-at f L m bs c false t) ∙ n)))
+    let s = span-at f L m bs false t in
+    subst (Fields (Fine c) (f ∷ L)) (sym (pieces-at f L m bs false t))
+    (inl refl, fine-pieces c L (m / 2) bs (omega arith) u (sym (first-at f L m bs c false t) ∙ n)))
     (cases-bool (marked m))
 
 -- what is cut apart has the map that it was cut by
@@ -174,19 +174,19 @@ map-back (f ∷ L) m bs l h =
     let p = pow-suc 2 (length L) in
     ⊎-elim
     (λ t.
-        let w = width f in
-        let s = span-at f L m bs true t in
-        let o = eqb-true _ _ t in
-        let pos = width-pos f in
-        let len = length-drop w bs in
-        let tk = length-take-le w bs (omega arith) in
-        let i = map-back L (m / 2) (drop w bs) (omega arith) (omega arith) in
-        ap mapOf (pieces-at f L m bs true t) ∙ map-some (take w bs) _ (omega arith) ∙ ap (λ k. 1 + 2 * k) i ∙ omega arith)
+    let w = width f in
+    let s = span-at f L m bs true t in
+    let o = eqb-true _ _ t in
+    let pos = width-pos f in
+    let len = length-drop w bs in
+    let tk = length-take-le w bs (omega arith) in
+    let i = map-back L (m / 2) (drop w bs) (omega arith) (omega arith) in
+    ap mapOf (pieces-at f L m bs true t) ∙ map-some (take w bs) _ (omega arith) ∙ ap (λ k. 1 + 2 * k) i ∙ omega arith)
     (λ t.
-        let s = span-at f L m bs false t in
-        let o = eqb-false _ _ t in
-        let i = map-back L (m / 2) bs (omega arith) (omega arith) in
-        ap mapOf (pieces-at f L m bs false t) ∙ ap (λ k. 2 * k) i ∙ omega arith)
+    let s = span-at f L m bs false t in
+    let o = eqb-false _ _ t in
+    let i = map-back L (m / 2) bs (omega arith) (omega arith) in
+    ap mapOf (pieces-at f L m bs false t) ∙ ap (λ k. 2 * k) i ∙ omega arith)
     (cases-bool (marked m))
 
 -- and is, put together, what was cut
@@ -195,12 +195,12 @@ together-back [] m bs = refl
 together-back (f ∷ L) m bs =
     ⊎-elim
     (λ t.
-        let w = width f in
-        ap together (pieces-at f L m bs true t)
-        ∙ ap (λ r. take w bs ++ r) (together-back L (m / 2) (drop w bs))
-        ∙ sym (take-add w (span L (m / 2)) bs)
-        ∙ ap (λ k. take k bs) (sym (span-at f L m bs true t)))
+    let w = width f in
+    ap together (pieces-at f L m bs true t)
+    ∙ ap (λ r. take w bs ++ r) (together-back L (m / 2) (drop w bs))
+    ∙ sym (take-add w (span L (m / 2)) bs)
+    ∙ ap (λ k. take k bs) (sym (span-at f L m bs true t)))
     (λ t.
-        let s = span-at f L m bs false t in
-        ap together (pieces-at f L m bs false t) ∙ together-back L (m / 2) bs ∙ ap (λ k. take k bs) (omega arith))
+    let s = span-at f L m bs false t in
+    ap together (pieces-at f L m bs false t) ∙ together-back L (m / 2) bs ∙ ap (λ k. take k bs) (omega arith))
     (cases-bool (marked m))

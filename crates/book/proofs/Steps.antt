@@ -35,24 +35,22 @@ inside c [] m k bs l = (refl, refl)
 inside c (f ∷ L) m k bs l =
     ⊎-elim
     (λ t.
-        let w = width f in
-        let s = span-at f L m bs true t in
-        let ih = inside c L (m / 2) (k - w) (drop w bs) (omega arith) in
-        let front = take-take w k bs (omega arith) in
-        let rest : drop w (take k bs) ≡ take (k - w) (drop w bs) = ap (λ n. drop w (take n bs)) (omega arith) ∙ drop-take w (k - w) bs in
-        (
-          first-at f L m (take k bs) c true t
+    let w = width f in
+    let s = span-at f L m bs true t in
+    let ih = inside c L (m / 2) (k - w) (drop w bs) (omega arith) in
+    let front = take-take w k bs (omega arith) in
+    let rest : drop w (take k bs) ≡ take (k - w) (drop w bs) = ap (λ n. drop w (take n bs)) (omega arith) ∙ drop-take w (k - w) bs in (
+      first-at f L m (take k bs) c true t
           ∙ ap₂ (λ x y. orElse (wrong c f x) y) front (ap (firstWrong c L (m / 2)) rest ∙ ih .0)
           ∙ sym (first-at f L m bs c true t),
-          pieces-at f L m (take k bs) true t ∙ ap₂ (λ x y. x ∷ y) front (ap (pieces L (m / 2)) rest ∙ ih .1) ∙ sym (pieces-at f L m bs true t),
-        ))
+      pieces-at f L m (take k bs) true t ∙ ap₂ (λ x y. x ∷ y) front (ap (pieces L (m / 2)) rest ∙ ih .1) ∙ sym (pieces-at f L m bs true t),
+    ))
     (λ t.
-        let s = span-at f L m bs false t in
-        let ih = inside c L (m / 2) k bs (omega arith) in
-        (
-          first-at f L m (take k bs) c false t ∙ ih .0 ∙ sym (first-at f L m bs c false t),
-          pieces-at f L m (take k bs) false t ∙ ap (λ r. [] ∷ r) (ih .1) ∙ sym (pieces-at f L m bs false t),
-        ))
+    let s = span-at f L m bs false t in
+    let ih = inside c L (m / 2) k bs (omega arith) in (
+      first-at f L m (take k bs) c false t ∙ ih .0 ∙ sym (first-at f L m bs c false t),
+      pieces-at f L m (take k bs) false t ∙ ap (λ r. [] ∷ r) (ih .1) ∙ sym (pieces-at f L m bs false t),
+    ))
     (cases-bool (marked m))
 
 -- ---- one record
@@ -120,7 +118,7 @@ module _ (book : List ℕ) (at : ℕ) (p : Phase) (n : ℕ) (c : Contents) (resu
         let m = getD (drop at book) 1 0 in
         let k = span L m in
         let bytes : drop 2 part ≡ take k (drop 2 (drop at book)) =
-            ap (drop 2) (h .bytes-are) ∙ ap (λ j. drop 2 (take j (drop at book))) (is-whole .extent .size-is) ∙ drop-take 2 k (drop at book) in
+        ap (drop 2) (h .bytes-are) ∙ ap (λ j. drop 2 (take j (drop at book))) (is-whole .extent .size-is) ∙ drop-take 2 k (drop at book) in
         let i = inside c L m k (drop 2 (drop at book)) (omega arith) in
         (ap₂ (firstWrong c L) same-map bytes ∙ i .0, ap₂ (pieces L) same-map bytes ∙ i .1)
 
@@ -131,12 +129,11 @@ module _ (book : List ℕ) (at : ℕ) (p : Phase) (n : ℕ) (c : Contents) (resu
         let d = length-drop at book in
         let a = h .some in
         let b = h .inside in
-        let o = opened-up (g .turns) (standing p at c) (drop at book) (omega arith) (g .enough) in
-        (
+        let o = opened-up (g .turns) (standing p at c) (drop at book) (omega arith) (g .enough) in (
           o .0,
           o .1,
           sym (g .result-is) ∙ ap (filing c) (o .2)
-          ∙ ap (λ x. filing c (afterCut (recordsIn (o .0)) (standing p at c) (drop at book) x)) (sym (cut-tracks p n c (g .tracks) (drop at book)) ∙ h .record-is),
+              ∙ ap (λ x. filing c (afterCut (recordsIn (o .0)) (standing p at c) (drop at book) x)) (sym (cut-tracks p n c (g .tracks) (drop at book)) ∙ h .record-is),
         )
 
     pub fails : (r : Refusal) → firstWrong c (layout q) (getD part 1 0) (drop 2 part) ≡ Some r → result ≡ Err (record { refusal = r; place = at })
@@ -161,14 +158,14 @@ module _ (book : List ℕ) (at : ℕ) (p : Phase) (n : ℕ) (c : Contents) (resu
           turns = o .0;
           enough = omega arith;
           result-is =
-            ap (λ bs. filing (filed c r) (recordsIn (o .0) (standing q (at + k) (filed c r)) bs)) (sym (drop-drop k at book))
-            ∙ sym (filing-first c r (recordsIn (o .0) (standing q (at + k) (filed c r)) (drop k (drop at book))))
-            ∙ ap (λ r. filing c (prepended r (recordsIn (o .0) (standing q (at + k) (filed c r)) (drop k (drop at book))))) (sym same)
-            ∙ ap (λ x. filing c (afterFields (recordsIn (o .0)) (standing p at c) (drop at book) q k x)) (sym e ∙ same-fields .0)
-            ∙ sym (o .2);
+              ap (λ bs. filing (filed c r) (recordsIn (o .0) (standing q (at + k) (filed c r)) bs)) (sym (drop-drop k at book))
+              ∙ sym (filing-first c r (recordsIn (o .0) (standing q (at + k) (filed c r)) (drop k (drop at book))))
+              ∙ ap (λ r. filing c (prepended r (recordsIn (o .0) (standing q (at + k) (filed c r)) (drop k (drop at book))))) (sym same)
+              ∙ ap (λ x. filing c (afterFields (recordsIn (o .0)) (standing p at c) (drop at book) q k x)) (sym e ∙ same-fields .0)
+              ∙ sym (o .2);
           tracks =
-            subst (λ q′. Tracks q′ (numbered p n q′ + 1) (filed c r)) kind
-            (tracks-more p n c r (g .tracks) (subst (λ q′. kindOf p ≤ kindOf q′) (sym kind) (is-whole .rising)));
+              subst (λ q′. Tracks q′ (numbered p n q′ + 1) (filed c r)) kind
+              (tracks-more p n c r (g .tracks) (subst (λ q′. kindOf p ≤ kindOf q′) (sym kind) (is-whole .rising)));
         }
 
 -- ---- the first record
@@ -185,5 +182,5 @@ pub going-there : (book : List ℕ) (result : Result Contents Fault) (at at′ :
     → at ≡ at′ → p ≡ p′ → n ≡ n′ → c ≡ c′ → Going book at p n c result → Going book at′ p′ n′ c′ result
 going-there book result at at′ p p′ n n′ c c′ e f g h =
     λ x.
-        subst (λ at. Going book at p′ n′ c′ result) e
-        (subst (λ p. Going book at p n′ c′ result) f (subst (λ n. Going book at p n c′ result) g (subst (λ c. Going book at p n c result) h x)))
+    subst (λ at. Going book at p′ n′ c′ result) e
+    (subst (λ p. Going book at p n′ c′ result) f (subst (λ n. Going book at p n c′ result) g (subst (λ c. Going book at p n c result) h x)))

@@ -19,7 +19,6 @@ module _ (f : Field) (L : List Field) (m : ℕ) (bs : List ℕ) where
   pub own-length : span (f ∷ L) m ≤ length bs → cond (marked m) (width f) 0 ≤ length bs
   own-length l = omega arith
 
-
   behind-length : (t : Bool) (n : ℕ) → cond t (width f) 0 + n ≤ length bs → n ≤ length (cond t (drop (width f) bs) bs)
   behind-length true n l = let d = length-drop (width f) bs in omega arith
   behind-length false n l = omega arith

@@ -79,13 +79,13 @@ pub tracks-more : (p : Phase) (n : ℕ) (c : Contents) (r : Record) → Tracks p
 tracks-more p n c r t l q h =
     ⊎-elim
     (λ e.
-        let f = same-phase (phaseOf r) q e in
-        numbered-same (phaseOf r) (numbered p n (phaseOf r) + 1) q e ∙ ap (λ k. k + 1) (t (phaseOf r) l) ∙ sym (count-filed c r) ∙ ap (λ q. count q (filed c r)) f)
+    let f = same-phase (phaseOf r) q e in
+    numbered-same (phaseOf r) (numbered p n (phaseOf r) + 1) q e ∙ ap (λ k. k + 1) (t (phaseOf r) l) ∙ sym (count-filed c r) ∙ ap (λ q. count q (filed c r)) f)
     (λ e.
-        numbered-other (phaseOf r) (numbered p n (phaseOf r) + 1) q e
-        ∙ sym (numbered-other p n q (λ z. absurd (e (omega arith))))
-        ∙ t q (omega arith)
-        ∙ sym (count-other c r q e))
+    numbered-other (phaseOf r) (numbered p n (phaseOf r) + 1) q e
+    ∙ sym (numbered-other p n q (λ z. absurd (e (omega arith))))
+    ∙ t q (omega arith)
+    ∙ sym (count-other c r q e))
     (cases-eq (kindOf (phaseOf r)) (kindOf q))
 
 cut-same : (o : Option Phase) (m n : Phase → ℕ) (bs : List ℕ) → ((q : Phase) → o ≡ Some q → m q ≡ n q) → cutAs o m bs ≡ cutAs o n bs

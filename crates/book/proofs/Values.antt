@@ -80,8 +80,8 @@ stood-set c f s e w n =
     ⊎-elim
     (λ t. inl (cond-true (isEmpty s) [] (bytesOf s) t))
     (λ t.
-        let q = cond-false (isEmpty s) [] (bytesOf s) t in
-        subst (Stood c f) (sym q) (inr (length-bytes 8 (s .bits) ∙ sym e, (bytes-under 8 (s .bits), n t))))
+    let q = cond-false (isEmpty s) [] (bytesOf s) t in
+    subst (Stood c f) (sym q) (inr (length-bytes 8 (s .bits) ∙ sym e, (bytes-under 8 (s .bits), n t))))
     (cases-bool (isEmpty s))
 
 -- a set of operations
@@ -112,8 +112,8 @@ names-stood c k s d =
     let h = lt-ltb (s .bits) (2 ^ count k c) (below (count k c) (s .bits) (d .0) .1 (d .1)) in
     stood-set c (names k) s refl (d .0)
     (λ t.
-        ap (λ s. cond (isEmpty s) (Some Empty) (cond (isBelow (count k c) s) None (Some Undeclared))) (set-of-bytes s (d .0))
-        ∙ ap₂ (λ x y. cond x (Some Empty) (cond y None (Some Undeclared))) t h)
+    ap (λ s. cond (isEmpty s) (Some Empty) (cond (isBelow (count k c) s) None (Some Undeclared))) (set-of-bytes s (d .0))
+    ∙ ap₂ (λ x y. cond x (Some Empty) (cond y None (Some Undeclared))) t h)
 
 -- ---- single bytes
 
@@ -140,8 +140,8 @@ modifiers-stood c n l =
     ⊎-elim
     (λ t. inl (cond-true (eqb n 0) [] (n ∷ []) t))
     (λ t.
-        subst (Stood c modifiers) (sym (cond-false (eqb n 0) [] (n ∷ []) t))
-        (inr (refl, ((omega arith, tt), ap₂ (λ x y. cond x (Some Empty) (cond y None (Some Undeclared))) t (le-leb n 7 l)))))
+    subst (Stood c modifiers) (sym (cond-false (eqb n 0) [] (n ∷ []) t))
+    (inr (refl, ((omega arith, tt), ap₂ (λ x y. cond x (Some Empty) (cond y None (Some Undeclared))) t (le-leb n 7 l)))))
     (cases-bool (eqb n 0))
 
 pub modifiers-read : (n : ℕ) → getD (byteField n) 0 0 ≡ n
@@ -163,11 +163,10 @@ denials-back c b (inr p) =
     let ld = length-drop 8 b in
     let ut = all-take (λ d. d < 256) 8 b (p .1 .0) in
     let ud = all-drop (λ d. d < 256) 8 b (p .1 .0) in
-    let e : length (drop 8 b) ≡ 8 = omega arith in
-    (
+    let e : length (drop 8 b) ≡ 8 = omega arith in (
       cond-false (isEmpty (setOf (take 8 b)) && isEmpty (setOf (drop 8 b))) [] _ (empty-none _ (p .1 .1))
-      ∙ ap₂ (λ x y. x ++ y) (bytes-of-set (take 8 b) lt ut) (bytes-of-set (drop 8 b) e ud)
-      ∙ take-append-drop 8 b,
+          ∙ ap₂ (λ x y. x ++ y) (bytes-of-set (take 8 b) lt ut) (bytes-of-set (drop 8 b) e ud)
+          ∙ take-append-drop 8 b,
       word-of-bytes (take 8 b) lt ut,
       word-of-bytes (drop 8 b) e ud,
     )
@@ -186,30 +185,28 @@ denials-stood c s t v w =
     ⊎-elim
     (λ x. inl (cond-true (isEmpty s && isEmpty t) [] (bytesOf s ++ bytesOf t) x))
     (λ x.
-        subst (Stood c denials) (sym (cond-false (isEmpty s && isEmpty t) [] (bytesOf s ++ bytesOf t) x))
-        (inr
-         (
-           length-append (bytesOf s) (bytesOf t) ∙ omega arith,
-           (
-             all-append (λ d. d < 256) (bytesOf s) (bytesOf t) (bytes-under 8 (s .bits)) (bytes-under 8 (t .bits)),
-             ap₂ (λ a b. cond (isEmpty (setOf a) && isEmpty (setOf b)) (Some Empty) None) (front s t) (back s t)
-             ∙ ap₂ (λ a b. cond (isEmpty a && isEmpty b) (Some Empty) None) (set-of-bytes s v) (set-of-bytes t w)
-             ∙ ap (λ y. cond y (Some Empty) None) x,
-           ),
-         )))
+    subst (Stood c denials) (sym (cond-false (isEmpty s && isEmpty t) [] (bytesOf s ++ bytesOf t) x))
+    (inr (
+      length-append (bytesOf s) (bytesOf t) ∙ omega arith,
+      (
+        all-append (λ d. d < 256) (bytesOf s) (bytesOf t) (bytes-under 8 (s .bits)) (bytes-under 8 (t .bits)),
+        ap₂ (λ a b. cond (isEmpty (setOf a) && isEmpty (setOf b)) (Some Empty) None) (front s t) (back s t)
+            ∙ ap₂ (λ a b. cond (isEmpty a && isEmpty b) (Some Empty) None) (set-of-bytes s v) (set-of-bytes t w)
+            ∙ ap (λ y. cond y (Some Empty) None) x,
+      ),
+    )))
     (cases-bool (isEmpty s && isEmpty t))
 
 pub denials-read : (s t : NumberSet) → Word s → Word t → (setOf (take 8 (pairField s t)) ≡ s) × (setOf (drop 8 (pairField s t)) ≡ t)
 denials-read s t v w =
     ⊎-elim
     (λ x.
-        let e = cond-true (isEmpty s && isEmpty t) [] (bytesOf s ++ bytesOf t) x in
-        let p = and-parts (isEmpty s) (isEmpty t) x in
-        (
-          ap (λ b. setOf (take 8 b)) e ∙ ap (λ n. let t : NumberSet = record { bits = n } in t) (sym (eqb-true _ _ (p .0))),
-          ap (λ b. setOf (drop 8 b)) e ∙ ap (λ n. let t : NumberSet = record { bits = n } in t) (sym (eqb-true _ _ (p .1))),
-        ))
+    let e = cond-true (isEmpty s && isEmpty t) [] (bytesOf s ++ bytesOf t) x in
+    let p = and-parts (isEmpty s) (isEmpty t) x in (
+      ap (λ b. setOf (take 8 b)) e ∙ ap (λ n. let t : NumberSet = record { bits = n } in t) (sym (eqb-true _ _ (p .0))),
+      ap (λ b. setOf (drop 8 b)) e ∙ ap (λ n. let t : NumberSet = record { bits = n } in t) (sym (eqb-true _ _ (p .1))),
+    ))
     (λ x.
-        let e = cond-false (isEmpty s && isEmpty t) [] (bytesOf s ++ bytesOf t) x in
-        (ap (λ b. setOf (take 8 b)) e ∙ ap setOf (front s t) ∙ set-of-bytes s v, ap (λ b. setOf (drop 8 b)) e ∙ ap setOf (back s t) ∙ set-of-bytes t w))
+    let e = cond-false (isEmpty s && isEmpty t) [] (bytesOf s ++ bytesOf t) x in
+    (ap (λ b. setOf (take 8 b)) e ∙ ap setOf (front s t) ∙ set-of-bytes s v, ap (λ b. setOf (drop 8 b)) e ∙ ap setOf (back s t) ∙ set-of-bytes t w))
     (cases-bool (isEmpty s && isEmpty t))

@@ -11,7 +11,7 @@ use Rattle.book.specs.declared.records.View.{View}
 use Rattle.book.specs.declared.records.SubjectRecord.{SubjectRecord}
 pub use Rattle.book.specs.declared.records.Record.{Record}
 pub use Rattle.book.specs.declared.records.Record.the-variants.{AType, ARole, AGroup, AView, ASubject}
-use Rattle.book.specs.declared.listing.Records.{Records}
+use Rattle.book.specs.declared.contents.Records.{Records}
 use Rattle.book.specs.Tables.{listed}
 
 -- the kind of a record

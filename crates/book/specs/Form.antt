@@ -51,9 +51,9 @@ abbrev pub extent : Phase → ℕ → List ℕ → Cut
 extent p n bs =
     cond (leb (limit p) n) (broken TooMany)
     (cond (ltb (length bs) 2) (broken Ends)
-     (cond (unfit p (getD bs 1 0)) (broken Map)
-      (cond (ltb (length bs) (2 + span (layout p) (getD bs 1 0))) (broken Ends)
-       (whole p (2 + span (layout p) (getD bs 1 0))))))
+    (cond (unfit p (getD bs 1 0)) (broken Map)
+    (cond (ltb (length bs) (2 + span (layout p) (getD bs 1 0))) (broken Ends)
+    (whole p (2 + span (layout p) (getD bs 1 0))))))
 
 abbrev pub cutAs : Option Phase → (Phase → ℕ) → List ℕ → Cut
 cutAs None n bs = broken Order
@@ -188,7 +188,7 @@ abbrev pub opening : List ℕ → Option Refusal
 opening bs =
     cond (eqb (length bs) 0 || ltb 16384 (length bs)) (Some Size)
     (cond (not (eqb (getD bs 0 0) 1)) (Some Version)
-     None)
+    None)
 
 abbrev pub afterOpening : Option Refusal → List ℕ → Result (List Record) Fault
 afterOpening (Some r) bs = refused r 0

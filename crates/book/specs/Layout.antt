@@ -21,10 +21,10 @@ abbrev pub kindNamed : ℕ → Option Phase
 kindNamed k =
     cond (eqb k 1) (Some Types)
     (cond (eqb k 2) (Some Roles)
-     (cond (eqb k 3) (Some Groups)
-      (cond (eqb k 4) (Some Views)
-       (cond (eqb k 5) (Some Subjects)
-        None))))
+    (cond (eqb k 3) (Some Groups)
+    (cond (eqb k 4) (Some Views)
+    (cond (eqb k 5) (Some Subjects)
+    None))))
 
 -- the most records of a kind
 abbrev pub limit : Phase → ℕ

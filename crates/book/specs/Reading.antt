@@ -1,7 +1,7 @@
 -- What the steps of a reading answer.
 use mathlib.Core.Path.{_≡_}
 use mathlib.Core.List.{List}
-use Prim.Native.Nat.{ℕ, _+_, _/_, _<_}
+use Prim.Native.Nat.{ℕ, _+_, _/_, _<_, _≤_}
 use lib.ListN.{length, take, drop}
 use Rattle.std.specs.declared.option.Option.{Option}
 use Rattle.std.specs.declared.option.Option.the-variants.{Some, None}
@@ -27,4 +27,4 @@ pub record Handed (book : List ℕ) (at : ℕ) (p : Phase) (n : ℕ) (q : Phase)
   pub place-is : place ≡ at
   pub bytes-are : part ≡ take (length part) (drop at book)
   pub some : 0 < length part
-  pub inside : at + length part < length book + 1
+  pub inside : at + length part ≤ length book

@@ -5,7 +5,7 @@ ghost use Rattle.std.specs.Results.{Cases};
 ghost use Rattle.book.specs.Contents.{contentsOf};
 ghost use Rattle.book.specs.Form.{reading};
 ghost use Rattle.book.specs.FormLaws.{PassesAsEncoded, PartsAreTheBook};
-use crate::listing::Records;
+use crate::contents::Records;
 use crate::reader::Reader;
 use crate::reader::check_opening;
 use crate::refusal::Fault;
@@ -24,7 +24,10 @@ pub fn read(book: &[u8]) -> Result<Records, Fault>
     while let Some(part) = reader.next()? {
         match records.made_of(part) {
             Ok(record) => records.file(record),
-            Err(refusal) => return Err(Fault { refusal, place: part.place }),
+            Err(refusal) => return Err(Fault {
+                refusal,
+                place: part.place,
+            }),
         }
     }
     Ok(records)

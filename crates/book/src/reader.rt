@@ -50,7 +50,9 @@ impl Section {
             (Phase::Groups, 3) => {}
             (Phase::Types | Phase::Roles | Phase::Groups, 4) => self.enter(Phase::Views),
             (Phase::Views, 4) => {}
-            (Phase::Types | Phase::Roles | Phase::Groups | Phase::Views, 5) => self.enter(Phase::Subjects),
+            (Phase::Types | Phase::Roles | Phase::Groups | Phase::Views, 5) => self.enter(
+                Phase::Subjects,
+            ),
             (Phase::Subjects, 5) => {}
             _ => return false,
         }
@@ -163,7 +165,10 @@ impl<'a> Reader<'a> {
     pub fn new(book: &'a [u8]) -> Reader<'a>
         ensures { λ r. ⌜ (now (r .book) ≡ now (book .entry)) × (r .at ≡ min 1 (length (now (book .entry)))) × (r .section .phase ≡ Phase.Types) × (r .section .number ≡ 0) ⌝ }
     {
-        let section = Section { phase: Phase::Types, number: 0 };
+        let section = Section {
+            phase: Phase::Types,
+            number: 0,
+        };
         let at = if book.is_empty() { 0 } else { 1 };
         Reader { book, at, section }
     }
@@ -183,9 +188,16 @@ impl<'a> Reader<'a> {
             Err(refusal) => Err(Fault { refusal, place }),
             Ok((section, size)) => {
                 let phase = section.phase;
-                self.section = Section { phase, number: section.number + 1 };
+                self.section = Section {
+                    phase,
+                    number: section.number + 1,
+                };
                 self.at = place + size;
-                Ok(Some(Part { phase, place, bytes: &bytes[0..size] }))
+                Ok(Some(Part {
+                    phase,
+                    place,
+                    bytes: &bytes[0..size],
+                }))
             }
         }
     }

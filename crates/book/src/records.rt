@@ -4,8 +4,8 @@ ghost use mathlib.Core.Bool.{true};
 ghost use Rattle.sets.specs.Members.{Bit, Iff};
 use sets::NumberSet;
 use sets::NumberSetDebug;
-use sets::NumberSetPartialEq;
 use sets::NumberSetEq;
+use sets::NumberSetPartialEq;
 
 /// A type of gates: the types above it, and its own operations.
 #[derive(Clone, Copy, PartialEq, Eq, Debug)]

@@ -12,7 +12,10 @@ impl<T: Copy, const N: usize> Table<T, N> {
     pub(crate) fn empty(blank: T) -> Table<T, N>
         ensures { λ r. ⌜ listed r ≡ [] ⌝ }
     {
-        Table { items: [blank; N], len: 0 }
+        Table {
+            items: [blank; N],
+            len: 0,
+        }
     }
 
     /// Adds an item behind those that are there.
@@ -25,17 +28,29 @@ impl<T: Copy, const N: usize> Table<T, N> {
         self.len = at + 1;
     }
 
+    /// The items, in the order of their numbers.
+    pub fn as_slice(&self) -> &[T]
+        ensures { λ r. ⌜ now r ≡ listed (now (self .entry)) ⌝ }
+    {
+        let places = &self.items[..];
+        &places[0..self.len]
+    }
+
     /// How many items there are.
     pub fn len(&self) -> usize
         ensures { λ r. ⌜ r ≡ length (listed (now (self .entry))) ⌝ }
     {
-        self.len
+        self.as_slice().len()
     }
 
     /// The item of that number, if there is one.
     pub fn get(&self, number: usize) -> Option<T>
         ensures { λ r. ⌜ BySome r (length (listed (now (self .entry))) ≤ number) (λ x. (number < length (listed (now (self .entry)))) × ((d : T) → x ≡ getD (listed (now (self .entry))) number d)) ⌝ }
     {
-        if number < self.len { Some(self.items[number]) } else { None }
+        if number < self.len {
+            Some(self.items[number])
+        } else {
+            None
+        }
     }
 }

@@ -26,8 +26,7 @@ use Rattle.book.proofs.read.read.Needs.{In-Some}
 pub loop-part-holds : need.loop-part-holds
 loop-part-holds c =
     let book = c .args .book .now in
-    let n = c .new-reader .ensures in
-    (
+    let n = c .new-reader .ensures in (
       n .0,
       going-there book (reading book) _ _ _ _ _ _ _ _ (sym (n .1)) (sym (n .2)) (sym (n .3)) (sym (c .empty-records .ensures)) (begins book (c .in-rest .ensures tt .0)),
     )
@@ -50,12 +49,12 @@ returns-in-Break-part c =
     let f = c .in-Break-part .field-0 .0 in
     let e = err-from-errBy (c .from-residual .result) (c .from-residual .ensures .1) in
     let result : reading book ≡ Err (record { refusal = f .refusal; place = r .at }) =
-        breaks book (r .at) p n (contentsOf (c .loop-part .records)) (reading book) (c .loop-part .inv .1) (f .refusal)
-        (subst (λ book. r .at < length book) b (h .0)) (subst (λ book. cut p (numbered p n) (drop (r .at) book) ≡ broken (f .refusal)) b (h .1)) in
+    breaks book (r .at) p n (contentsOf (c .loop-part .records)) (reading book) (c .loop-part .inv .1) (f .refusal)
+    (subst (λ book. r .at < length book) b (h .0)) (subst (λ book. cut p (numbered p n) (drop (r .at) book) ≡ broken (f .refusal)) b (h .1)) in
     record {
       records =
-        subst (λ r. Cases r (λ t. reading book ≡ Ok (contentsOf t)) (λ f. reading book ≡ Err f)) (sym (e .1))
-        (result ∙ ap (λ at. Err (record { refusal = f .refusal; place = at })) (sym (h .2)) ∙ ap Err (sym (e .2)));
+          subst (λ r. Cases r (λ t. reading book ≡ Ok (contentsOf t)) (λ f. reading book ≡ Err f)) (sym (e .1))
+          (result ∙ ap (λ at. Err (record { refusal = f .refusal; place = at })) (sym (h .2)) ∙ ap Err (sym (e .2)));
       encoded = passes-as-encoded;
       parts = parts-are-the-book;
     }
@@ -63,7 +62,7 @@ returns-in-Break-part c =
 -- what the reader handed out
 handed : (c : In-Some)
     → Handed (c .args .book .now) (c .loop-part .reader .at) (c .loop-part .reader .section .phase) (c .loop-part .reader .section .number)
-      (c .in-Some .part .phase) (c .in-Some .part .place) (c .in-Some .part .bytes .now)
+    (c .in-Some .part .phase) (c .in-Some .part .place) (c .in-Some .part .bytes .now)
 handed c =
     let r = c .loop-part .reader in
     let Q : List ℕ → Part → Type 0 = λ book p. Handed book (r .at) (r .section .phase) (r .section .number) (p .phase) (p .place) (p .bytes .now) in
@@ -85,8 +84,8 @@ file-requires c κs =
     let part = c .in-Some .part in
     let all = contentsOf (c .loop-part .records) in
     let room =
-        part-room book (r .at) (r .section .phase) (r .section .number) all (reading book) (c .loop-part .inv .1) (part .phase) (part .place) (part .bytes .now)
-        (handed (need.at·file-requires c .In-Some)) in
+    part-room book (r .at) (r .section .phase) (r .section .number) all (reading book) (c .loop-part .inv .1) (part .phase) (part .place) (part .bytes .now)
+    (handed (need.at·file-requires c .In-Some)) in
     let fs = pieces (layout (part .phase)) (getD (part .bytes .now) 1 0) (drop 2 (part .bytes .now)) in
     let kind : part .phase ≡ phaseOf (c .in-Ok .record) = sym (ap phaseOf (c .in-Ok .ensures tt .1) ∙ phase-from (part .phase) (part .place) fs) in
     subst (λ q. count q all < limit q) kind room
@@ -103,12 +102,11 @@ loop-part-again c =
     let told = c .in-Ok .ensures tt in
     let Q : Part → Type 0 = λ x. (c .next .last .self .at ≡ r .at + length (x .bytes .now)) × (c .next .last .self .section .phase ≡ x .phase) × (c .next .last .self .section .number ≡ numbered p n (x .phase) + 1) in
     let moved =
-        cases-at-some ((c .next .last .self .at ≡ r .at) × (c .next .last .self .section ≡ r .section)) Q part (c .in-Some .is) (c .in-Continue-part .ensures tt .after) in
+    cases-at-some ((c .next .last .self .at ≡ r .at) × (c .next .last .self .section ≡ r .section)) Q part (c .in-Some .is) (c .in-Continue-part .ensures tt .after) in
     let next = goes-on book (r .at) p n all (reading book) (c .loop-part .inv .1) (part .phase) (part .place) (part .bytes .now) h (told .0) in
     let pieces-of = pieces (layout (part .phase)) (getD (part .bytes .now) 1 0) (drop 2 (part .bytes .now)) in
     let filed-is : contentsOf (c .file .last .self) ≡ filed all (recordFrom (part .phase) (r .at) pieces-of) =
-        c .file .ensures ∙ ap (filed all) (told .1 ∙ ap (λ at. recordFrom (part .phase) at pieces-of) (h .place-is)) in
-    (
+    c .file .ensures ∙ ap (filed all) (told .1 ∙ ap (λ at. recordFrom (part .phase) at pieces-of) (h .place-is)) in (
       c .next .ensures .book ∙ c .loop-part .inv .0,
       going-there book (reading book) _ _ _ _ _ _ _ _ (sym (moved .0)) (sym (moved .1)) (sym (moved .2)) (sym filed-is) next,
     )
@@ -121,8 +119,8 @@ returns-in-Err-made-of c =
     let h = handed (need.at·returns-in-Err-made-of c .In-Some) in
     let e = c .in-Err-made-of .refusal in
     let wrong =
-        fails book (r .at) (r .section .phase) (r .section .number) (contentsOf (c .loop-part .records)) (reading book) (c .loop-part .inv .1) (part .phase) (part .place) (part .bytes .now) h e
-        (c .in-Err-made-of .ensures tt) in
+    fails book (r .at) (r .section .phase) (r .section .number) (contentsOf (c .loop-part .records)) (reading book) (c .loop-part .inv .1) (part .phase) (part .place) (part .bytes .now) h e
+    (c .in-Err-made-of .ensures tt) in
     record { records = wrong ∙ ap (λ at. Err (record { refusal = e; place = at })) (sym (h .place-is)); encoded = passes-as-encoded; parts = parts-are-the-book }
 
 pub returns : need.returns

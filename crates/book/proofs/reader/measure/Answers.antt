@@ -27,12 +27,12 @@ loop-width-again c =
     let ws = c .widths-fields .result .now in
     let l = c .loop-width in
     elim (c .if-left-eq1 .came) [
-      then-left-eq1 w ↦
-        subst (λ size. Counted ws (c .args .map) (l .width-index + 1) size (l .left / 2)) (sym (w .size-is))
-        (counted-more ws (c .args .map) (l .width-index) (l .size) (l .left) (l .inv) (c .loop-width-test .taken) (eq-eqb _ _ (w .if-left-eq1 .taken)))
-    | else-left-eq1 w ↦
-        subst (λ size. Counted ws (c .args .map) (l .width-index + 1) size (l .left / 2)) (sym (w .size-is))
-        (counted-pass ws (c .args .map) (l .width-index) (l .size) (l .left) (l .inv) (c .loop-width-test .taken) (ne-eqb _ _ (w .if-left-eq1 .left)))
+      | then-left-eq1 w ↦
+          subst (λ size. Counted ws (c .args .map) (l .width-index + 1) size (l .left / 2)) (sym (w .size-is))
+          (counted-more ws (c .args .map) (l .width-index) (l .size) (l .left) (l .inv) (c .loop-width-test .taken) (eq-eqb _ _ (w .if-left-eq1 .taken)))
+      | else-left-eq1 w ↦
+          subst (λ size. Counted ws (c .args .map) (l .width-index + 1) size (l .left / 2)) (sym (w .size-is))
+          (counted-pass ws (c .args .map) (l .width-index) (l .size) (l .left) (l .inv) (c .loop-width-test .taken) (ne-eqb _ _ (w .if-left-eq1 .left)))
     ]
 
 pub returns-then-left-gt0 : need.returns-then-left-gt0
@@ -41,8 +41,8 @@ returns-then-left-gt0 c =
     let all = counted-all (c .widths-fields .result .now) (c .args .map) (l .width-index) (l .size) (l .left) (l .inv) (c .loop-width-test .left) in
     let past = all .1 ∙ ap (λ ws. c .args .map / 2 ^ length ws) (c .widths-fields .ensures) in
     elim (c .then-left-gt0 .came) [
-      then-left-gt0·by·then-left-gt0 w ↦ let h = w .if-left-gt0 .taken in unfit-past (c .args .phase) (c .args .map) (omega arith)
-    | then-left-gt0·by·else-left-gt0·then-lacks-type w ↦ unfit-first (c .args .phase) (c .args .map) (sym (w .lacks-type .ensures) ∙ w .if-lacks-type .taken)
+      | then-left-gt0·by·then-left-gt0 w ↦ let h = w .if-left-gt0 .taken in unfit-past (c .args .phase) (c .args .map) (omega arith)
+      | then-left-gt0·by·else-left-gt0·then-lacks-type w ↦ unfit-first (c .args .phase) (c .args .map) (sym (w .lacks-type .ensures) ∙ w .if-lacks-type .taken)
     ]
 
 pub returns : need.returns
@@ -50,8 +50,7 @@ returns c =
     let l = c .loop-width in
     let all = counted-all (c .widths-fields .result .now) (c .args .map) (l .width-index) (l .size) (l .left) (l .inv) (c .loop-width-test .left) in
     let past = all .1 ∙ ap (λ ws. c .args .map / 2 ^ length ws) (c .widths-fields .ensures) in
-    let none = c .if-left-gt0 .left in
-    (
+    let none = c .if-left-gt0 .left in (
       fits (c .args .phase) (c .args .map) (omega arith) (sym (c .lacks-type .ensures) ∙ c .if-lacks-type .left),
       all .0 ∙ ap (λ ws. spanOf ws (c .args .map)) (c .widths-fields .ensures) ∙ span-widths (layout (c .args .phase)) (c .args .map),
     )

@@ -42,11 +42,11 @@ returns c =
     let w : c .eight-weak .result ≡ setOf (take 8 bs) = c .eight-weak .ensures .value ∙ ap (λ b. setOf (take 8 b)) first in
     let s : c .eight-strong .result ≡ setOf (take 8 (drop 8 bs)) = c .eight-strong .ensures .value ∙ ap (λ b. setOf (take 8 b)) second in
     let some : (isEmpty (setOf (take 8 bs)) && isEmpty (setOf (take 8 (drop 8 bs)))) ≡ false =
-        elim (c .else-is-empty .came) [
-          else-is-empty·by·then-is-empty·else-is-empty-2 v ↦
-            and-right _ _ (ap isEmpty (sym s) ∙ sym (v .is-empty-then-is-empty .ensures .value) ∙ v .if-is-empty-2 .left)
-        | else-is-empty·by·else-is-empty v ↦ and-left _ _ (ap isEmpty (sym w) ∙ sym (c .is-empty .ensures .value) ∙ v .if-is-empty .left)
-        ] in
+    elim (c .else-is-empty .came) [
+      | else-is-empty·by·then-is-empty·else-is-empty-2 v ↦
+          and-right _ _ (ap isEmpty (sym s) ∙ sym (v .is-empty-then-is-empty .ensures .value) ∙ v .if-is-empty-2 .left)
+      | else-is-empty·by·else-is-empty v ↦ and-left _ _ (ap isEmpty (sym w) ∙ sym (c .is-empty .ensures .value) ∙ v .if-is-empty .left)
+    ] in
     record {
       moved = (
         c .eight-strong .ensures .map ∙ c .eight-weak .ensures .map ∙ c .present .ensures .map,

@@ -5,7 +5,7 @@ use Rattle.book.specs.Layout.{layout}
 use Rattle.book.specs.Contents.{contentsOf}
 use Rattle.book.specs.Form.{firstWrong, pieces, recordFrom}
 use Rattle.book.specs.Reading.{Told}
-use Rattle.book.proofs.listing.Records.made_of.Needs as need
+use Rattle.book.proofs.contents.Records.made_of.Needs as need
 
 pub returns : need.returns
 returns c =

@@ -37,11 +37,25 @@ impl Records {
         ensures { λ r. ⌜ contentsOf r ≡ nothing ⌝ }
     {
         let none = NumberSet::empty();
-        let rights = Rights { permitted: none, denied: none };
+        let rights = Rights {
+            permitted: none,
+            denied: none,
+        };
         Records {
-            types: Table::empty(TypeRecord { place: 0, supertypes: none, operations: none }),
-            roles: Table::empty(RoleRecord { place: 0, superroles: none }),
-            groups: Table::empty(GroupRecord { place: 0, supergroups: none, roles: none }),
+            types: Table::empty(TypeRecord {
+                place: 0,
+                supertypes: none,
+                operations: none,
+            }),
+            roles: Table::empty(RoleRecord {
+                place: 0,
+                superroles: none,
+            }),
+            groups: Table::empty(GroupRecord {
+                place: 0,
+                supergroups: none,
+                roles: none,
+            }),
             views: Table::empty(View {
                 place: 0,
                 controlled: 0,
@@ -52,7 +66,10 @@ impl Records {
                 weak: rights,
                 strong: rights,
             }),
-            subjects: Table::empty(SubjectRecord { place: 0, groups: none }),
+            subjects: Table::empty(SubjectRecord {
+                place: 0,
+                groups: none,
+            }),
         }
     }
 
@@ -63,7 +80,11 @@ impl Records {
     {
         let supertypes = fields.numbers(self.types.len())?;
         let operations = fields.set()?;
-        Ok(Record::AType(TypeRecord { place, supertypes, operations }))
+        Ok(Record::AType(TypeRecord {
+            place,
+            supertypes,
+            operations,
+        }))
     }
 
     // The role that the fields make.
@@ -82,7 +103,11 @@ impl Records {
     {
         let supergroups = fields.numbers(self.groups.len())?;
         let roles = fields.numbers(self.roles.len())?;
-        Ok(Record::AGroup(GroupRecord { place, supergroups, roles }))
+        Ok(Record::AGroup(GroupRecord {
+            place,
+            supergroups,
+            roles,
+        }))
     }
 
     // The subject that the fields make.
@@ -107,9 +132,24 @@ impl Records {
         let weakly = fields.set()?;
         let strongly = fields.set()?;
         let (denied, forbidden) = fields.denials()?;
-        let weak = Rights { permitted: weakly, denied };
-        let strong = Rights { permitted: strongly, denied: forbidden };
-        Ok(Record::AView(View { place, controlled, bases, required, restriction, modifiers, weak, strong }))
+        let weak = Rights {
+            permitted: weakly,
+            denied,
+        };
+        let strong = Rights {
+            permitted: strongly,
+            denied: forbidden,
+        };
+        Ok(Record::AView(View {
+            place,
+            controlled,
+            bases,
+            required,
+            restriction,
+            modifiers,
+            weak,
+            strong,
+        }))
     }
 
     // The record of a kind that the fields make.
@@ -132,7 +172,11 @@ impl Records {
         ensures { λ r. ⌜ Told r (firstWrong (contentsOf (now (self .entry))) (layout (part .entry .phase)) (getD (now (part .entry .bytes)) 1 0) (drop 2 (now (part .entry .bytes)))) (recordFrom (part .entry .phase) (part .entry .place) (pieces (layout (part .entry .phase)) (getD (now (part .entry .bytes)) 1 0) (drop 2 (now (part .entry .bytes))))) ⌝ }
     {
         match part.bytes {
-            [_kind, map, rest @ ..] => self.from_fields(part.phase, part.place, Fields { map: *map, rest }),
+            [_kind, map, rest @ ..] => self.from_fields(
+                part.phase,
+                part.place,
+                Fields { map: *map, rest },
+            ),
             _ => unreachable(),
         }
     }

@@ -9,7 +9,7 @@ use Rattle.book.specs.Layout.{names, operations, controlled, modifiers, denial
 use Rattle.book.specs.Contents.{contentsOf, AView}
 use Rattle.book.specs.Form.{wrongNext, wrongControlled, wrongNames, viewFrom, piece}
 use Rattle.book.proofs.Taken.{own-length, length-left, wrong-left, pieces-left}
-use Rattle.book.proofs.listing.Records.view_from.Needs as need
+use Rattle.book.proofs.contents.Records.view_from.Needs as need
 
 pub numbers-requires-3 : need.numbers-requires-3
 numbers-requires-3 c κs =
