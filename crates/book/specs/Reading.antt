@@ -9,6 +9,9 @@ use Rattle.std.specs.declared.result.Result.{Result}
 use Rattle.std.specs.declared.result.Result.the-variants.{Ok, Err}
 use Rattle.book.specs.declared.phase.Phase.{Phase}
 use Rattle.book.specs.declared.refusal.Refusal.{Refusal}
+use Rattle.book.specs.declared.refusal.Fault.{Fault}
+use Rattle.book.specs.declared.part.Part.{Part}
+use Rattle.book.specs.declared.position.Position.{Position}
 use Rattle.book.specs.Form.{behind, cut, Cut, whole, broken}
 use Rattle.book.specs.FormLaws.{numbered}
 
@@ -28,3 +31,17 @@ pub record Handed (book : List ℕ) (at : ℕ) (p : Phase) (n : ℕ) (q : Phase)
   pub bytes-are : part ≡ take (length part) (drop at book)
   pub some : 0 < length part
   pub inside : at + length part ≤ length book
+
+-- a position behind a part of kind q
+abbrev pub passed : Position → Phase → List ℕ → Position
+passed s q part = record { at = s .at + length part; phase = q; number = numbered (s .phase) (s .number) q + 1 }
+
+-- what a reader of the book answers at a position, and where it then stands
+abbrev pub Hands : List ℕ → Position → Result (Option Part) Fault → Position → Type 0
+Hands book s (Ok None) s′ = (s .at ≡ length book) × (s′ ≡ s)
+Hands book s (Ok (Some p)) s′ = Handed book (s .at) (s .phase) (s .number) (p .phase) (p .place) (p .bytes .now) × (s′ ≡ passed s (p .phase) (p .bytes .now))
+Hands book s (Err f) s′ =
+    (s .at < length book)
+    × (cut (s .phase) (numbered (s .phase) (s .number)) (drop (s .at) book) ≡ broken (f .refusal))
+    × (f .place ≡ s .at)
+    × (s′ ≡ s)

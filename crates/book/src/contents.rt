@@ -8,8 +8,8 @@ ghost use Rattle.book.specs.Contents.{contentsOf, nothing, count, filed, phase
 ghost use Rattle.book.specs.Form.{span, pieces, firstWrong, recordFrom};
 ghost use Rattle.book.specs.Reading.{Told};
 use crate::fields::Fields;
+use crate::part::Part;
 use crate::phase::Phase;
-use crate::reader::Part;
 use crate::records::GroupRecord;
 use crate::records::Record;
 use crate::records::Rights;

@@ -2,7 +2,7 @@ use mathlib.Core.Path.{_≡_}
 use mathlib.Core.List.{map}
 use Rattle.book.specs.Layout.{layout, width}
 use Rattle.book.proofs.Spans.{Counted}
-use Rattle.book.proofs.reader.measure.Given as given
+use Rattle.book.proofs.layout.measure.Given as given
 
 abbrev pub Inv-loop-width : given.InvT-loop-width
 Inv-loop-width l = Counted (l .fields) (l .map) (l .width-index) (l .size) (l .left)

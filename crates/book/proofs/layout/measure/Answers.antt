@@ -7,8 +7,8 @@ use Rattle.std.proofs.shelf.Tests.{eq-eqb, ne-eqb}
 use Rattle.book.specs.Layout.{layout, width}
 use Rattle.book.specs.Form.{marked}
 use Rattle.book.proofs.Spans.{Counted, spanOf, counted-none, counted-more, counted-pass, counted-fits, counted-all, span-small, span-widths, unfit-past, unfit-first, fits}
-use Rattle.book.proofs.reader.measure.Needs as need
-use Rattle.book.proofs.reader.measure.Needs.{then-left-eq1, else-left-eq1, then-left-gt0·by·then-left-gt0, then-left-gt0·by·else-left-gt0·then-lacks-type}
+use Rattle.book.proofs.layout.measure.Needs as need
+use Rattle.book.proofs.layout.measure.Needs.{then-left-eq1, else-left-eq1, then-left-gt0·by·then-left-gt0, then-left-gt0·by·else-left-gt0·then-lacks-type}
 
 pub loop-width-holds : need.loop-width-holds
 loop-width-holds c = counted-none (c .widths-fields .result .now) (c .args .map)
