@@ -3,12 +3,9 @@ ghost use mathlib.Core.Path.{_≡_};
 ghost use mathlib.Core.Bool.{true};
 ghost use Rattle.sets.specs.Members.{Bit, Iff};
 use sets::NumberSet;
-use sets::NumberSetDebug;
-use sets::NumberSetEq;
-use sets::NumberSetPartialEq;
 
 /// A type of gates: the types above it, and its own operations.
-#[derive(Clone, Copy, PartialEq, Eq, Debug)]
+#[derive(Clone, Copy)]
 pub struct TypeRecord {
     pub place: usize,
     pub supertypes: NumberSet,
@@ -16,14 +13,14 @@ pub struct TypeRecord {
 }
 
 /// A role: the roles above it.
-#[derive(Clone, Copy, PartialEq, Eq, Debug)]
+#[derive(Clone, Copy)]
 pub struct RoleRecord {
     pub place: usize,
     pub superroles: NumberSet,
 }
 
 /// A group of subjects: the groups above it, and the roles that its members have.
-#[derive(Clone, Copy, PartialEq, Eq, Debug)]
+#[derive(Clone, Copy)]
 pub struct GroupRecord {
     pub place: usize,
     pub supergroups: NumberSet,
@@ -31,14 +28,14 @@ pub struct GroupRecord {
 }
 
 /// The operations that a view permits and denies at one priority.
-#[derive(Clone, Copy, PartialEq, Eq, Debug)]
+#[derive(Clone, Copy)]
 pub struct Rights {
     pub permitted: NumberSet,
     pub denied: NumberSet,
 }
 
 /// A view: rights on the objects of a type, to be assigned as one.
-#[derive(Clone, Copy, PartialEq, Eq, Debug)]
+#[derive(Clone, Copy)]
 pub struct View {
     pub place: usize,
     pub controlled: u8,
@@ -74,14 +71,14 @@ impl View {
 }
 
 /// A subject: the groups that it is a member of.
-#[derive(Clone, Copy, PartialEq, Eq, Debug)]
+#[derive(Clone, Copy)]
 pub struct SubjectRecord {
     pub place: usize,
     pub groups: NumberSet,
 }
 
 /// One record of a book.
-#[derive(Clone, Copy, PartialEq, Eq, Debug)]
+#[derive(Clone, Copy)]
 pub enum Record {
     AType(TypeRecord),
     ARole(RoleRecord),

@@ -3,7 +3,7 @@ ghost use mathlib.Core.Path.{_≡_};
 ghost use Rattle.book.specs.Refusals.{numberOf};
 
 /// Why the form of a book is refused. Each case has the number that users see.
-#[derive(Clone, Copy, PartialEq, Eq, Debug)]
+#[derive(Clone, Copy)]
 pub enum Refusal {
     /// The book is empty, or above 16,384 bytes.
     Size = 1,
@@ -33,7 +33,7 @@ impl Refusal {
 }
 
 /// A refusal, with the place in the book: the offset of the record's kind byte, or 0 for the book as a whole.
-#[derive(Clone, Copy, PartialEq, Eq, Debug)]
+#[derive(Clone, Copy)]
 pub struct Fault {
     pub refusal: Refusal,
     pub place: usize,

@@ -12,7 +12,7 @@ ghost use Rattle.sets.specs.Bytes.{setOf};
 ghost use Rattle.sets.specs.Tests.{isEmpty, isBelow};
 
 /// A set of numbers, each at most 63.
-#[derive(Clone, Copy, PartialEq, Eq, Debug)]
+#[derive(Clone, Copy, PartialEq, Eq)]
 pub struct NumberSet {
     bits: u64,
 }
