@@ -18,7 +18,9 @@ use Rattle.book.specs.declared.refusal.Fault.{Fault}
 use Rattle.book.specs.declared.records.TypeRecord.{TypeRecord}
 use Rattle.book.specs.declared.records.RoleRecord.{RoleRecord}
 use Rattle.book.specs.declared.records.GroupRecord.{GroupRecord}
+use Rattle.book.specs.declared.records.Rights.{Rights}
 use Rattle.book.specs.declared.records.View.{View}
+use Rattle.book.specs.declared.contents.Terms.{Terms}
 use Rattle.book.specs.declared.records.SubjectRecord.{SubjectRecord}
 use Rattle.book.specs.Layout.{kindOf, kindNamed, limit, Field, names, operations, controlled, modifiers, denials, layout, width, needsFirst}
 use Rattle.book.specs.Contents.{Record, AType, ARole, AGroup, AView, ASubject, Contents, nothing, count, filed, filedAll}
@@ -123,16 +125,32 @@ roleFrom at fs = record { place = at; superroles = setOf (getD fs 0 []) }
 abbrev pub groupFrom : ℕ → List (List ℕ) → GroupRecord
 groupFrom at fs = record { place = at; supergroups = setOf (getD fs 0 []); roles = setOf (getD fs 1 []) }
 
+-- the rights of a view, weak and strong
+abbrev pub rightsFrom : List (List ℕ) → Rights × Rights
+rightsFrom fs = (
+  record { permitted = setOf (getD fs 0 []); denied = setOf (take 8 (getD fs 2 [])) },
+  record { permitted = setOf (getD fs 1 []); denied = setOf (drop 8 (getD fs 2 [])) },
+)
+
+-- its role restriction and modifiers, with the rights behind them
+abbrev pub termsFrom : List (List ℕ) → Terms
+termsFrom fs = record {
+  restriction = setOf (getD fs 0 []);
+  modifiers = getD (getD fs 1 []) 0 0;
+  weak = rightsFrom (drop 2 fs) .0;
+  strong = rightsFrom (drop 2 fs) .1;
+}
+
 abbrev pub viewFrom : ℕ → List (List ℕ) → View
 viewFrom at fs = record {
   place = at;
   controlled = getD (getD fs 0 []) 0 0;
   bases = setOf (getD fs 1 []);
   required = setOf (getD fs 2 []);
-  restriction = setOf (getD fs 3 []);
-  modifiers = getD (getD fs 4 []) 0 0;
-  weak = record { permitted = setOf (getD fs 5 []); denied = setOf (take 8 (getD fs 7 [])) };
-  strong = record { permitted = setOf (getD fs 6 []); denied = setOf (drop 8 (getD fs 7 [])) };
+  restriction = termsFrom (drop 3 fs) .restriction;
+  modifiers = termsFrom (drop 3 fs) .modifiers;
+  weak = termsFrom (drop 3 fs) .weak;
+  strong = termsFrom (drop 3 fs) .strong;
 }
 
 abbrev pub subjectFrom : ℕ → List (List ℕ) → SubjectRecord

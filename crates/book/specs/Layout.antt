@@ -47,12 +47,19 @@ pub data Field : Type 0 where
   -- two sets of operations, those denied weakly and those denied strongly
   denials : Field
 
+-- the last fields of a view: its rights, and before them who may hold it and how
+abbrev pub rightsFields : List Field
+rightsFields = operations ∷ operations ∷ denials ∷ []
+
+abbrev pub termsFields : List Field
+termsFields = names Roles ∷ modifiers ∷ rightsFields
+
 -- the fields of a record, from bit 0 of its map upwards
 abbrev pub layout : Phase → List Field
 layout Types = names Types ∷ operations ∷ []
 layout Roles = names Roles ∷ []
 layout Groups = names Groups ∷ names Roles ∷ []
-layout Views = controlled ∷ names Views ∷ names Views ∷ names Roles ∷ modifiers ∷ operations ∷ operations ∷ denials ∷ []
+layout Views = controlled ∷ names Views ∷ names Views ∷ termsFields
 layout Subjects = names Groups ∷ []
 
 -- how many bytes a field takes where it is present

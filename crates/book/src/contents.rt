@@ -3,9 +3,9 @@ ghost use mathlib.Core.Path.{_≡_};
 ghost use Prim.Native.Nat.{_+_, _<_, _≤_};
 ghost use lib.ListN.{length, getD, drop};
 ghost use Rattle.book.specs.declared.phase.Phase.the-variants.{Types, Roles, Groups, Views, Subjects};
-ghost use Rattle.book.specs.Layout.{layout, limit};
+ghost use Rattle.book.specs.Layout.{layout, limit, rightsFields, termsFields};
 ghost use Rattle.book.specs.Contents.{contentsOf, nothing, count, filed, phaseOf};
-ghost use Rattle.book.specs.Form.{span, pieces, firstWrong, recordFrom};
+ghost use Rattle.book.specs.Form.{span, pieces, firstWrong, recordFrom, rightsFrom, termsFrom};
 ghost use Rattle.book.specs.Reading.{Told};
 use crate::fields::Fields;
 use crate::part::Part;
@@ -20,6 +20,15 @@ use crate::records::View;
 use crate::refusal::Refusal;
 use crate::table::Table;
 use sets::NumberSet;
+
+// Who may hold a view, how it may be held, and its rights.
+#[derive(Clone, Copy)]
+struct Terms {
+    restriction: NumberSet,
+    modifiers: u8,
+    weak: Rights,
+    strong: Rights,
+}
 
 /// The records of a book.
 #[derive(Drop)]
@@ -119,6 +128,28 @@ impl Records {
         Ok(Record::ASubject(SubjectRecord { place, groups }))
     }
 
+    // The rights of a view, weak and strong.
+    fn rights_from(mut fields: Fields<'_>) -> Result<(Rights, Rights), Refusal>
+        requires { ⌜ span rightsFields (fields .map) ≤ length (now (fields .rest)) ⌝ }
+        ensures { λ r. ⌜ Told r (firstWrong nothing rightsFields (fields .entry .map) (now (fields .entry .rest))) (rightsFrom (pieces rightsFields (fields .entry .map) (now (fields .entry .rest)))) ⌝ }
+    {
+        let weakly = fields.set()?;
+        let strongly = fields.set()?;
+        let (weak, strong) = fields.denials()?;
+        Ok((Rights { permitted: weakly, denied: weak }, Rights { permitted: strongly, denied: strong }))
+    }
+
+    // The role restriction, the modifiers and the rights of a view.
+    fn terms_from(&self, mut fields: Fields<'_>) -> Result<Terms, Refusal>
+        requires { ⌜ span termsFields (fields .map) ≤ length (now (fields .rest)) ⌝ }
+        ensures { λ r. ⌜ Told r (firstWrong (contentsOf (now (self .entry))) termsFields (fields .entry .map) (now (fields .entry .rest))) (termsFrom (pieces termsFields (fields .entry .map) (now (fields .entry .rest)))) ⌝ }
+    {
+        let restriction = fields.numbers(self.roles.len())?;
+        let modifiers = fields.modifiers()?;
+        let (weak, strong) = Records::rights_from(fields)?;
+        Ok(Terms { restriction, modifiers, weak, strong })
+    }
+
     // The view that the fields make.
     fn view_from(&self, place: usize, mut fields: Fields<'_>) -> Result<Record, Refusal>
         requires { ⌜ span (layout Views) (fields .map) ≤ length (now (fields .rest)) ⌝ }
@@ -127,29 +158,8 @@ impl Records {
         let controlled = fields.controlled(self.types.len())?;
         let bases = fields.numbers(self.views.len())?;
         let required = fields.numbers(self.views.len())?;
-        let restriction = fields.numbers(self.roles.len())?;
-        let modifiers = fields.modifiers()?;
-        let weakly = fields.set()?;
-        let strongly = fields.set()?;
-        let (denied, forbidden) = fields.denials()?;
-        let weak = Rights {
-            permitted: weakly,
-            denied,
-        };
-        let strong = Rights {
-            permitted: strongly,
-            denied: forbidden,
-        };
-        Ok(Record::AView(View {
-            place,
-            controlled,
-            bases,
-            required,
-            restriction,
-            modifiers,
-            weak,
-            strong,
-        }))
+        let Terms { restriction, modifiers, weak, strong } = self.terms_from(fields)?;
+        Ok(Record::AView(View { place, controlled, bases, required, restriction, modifiers, weak, strong }))
     }
 
     // The record of a kind that the fields make.
