@@ -136,7 +136,16 @@ impl Records {
         let weakly = fields.set()?;
         let strongly = fields.set()?;
         let (weak, strong) = fields.denials()?;
-        Ok((Rights { permitted: weakly, denied: weak }, Rights { permitted: strongly, denied: strong }))
+        Ok((
+            Rights {
+                permitted: weakly,
+                denied: weak,
+            },
+            Rights {
+                permitted: strongly,
+                denied: strong,
+            },
+        ))
     }
 
     // The role restriction, the modifiers and the rights of a view.
@@ -147,7 +156,12 @@ impl Records {
         let restriction = fields.numbers(self.roles.len())?;
         let modifiers = fields.modifiers()?;
         let (weak, strong) = Records::rights_from(fields)?;
-        Ok(Terms { restriction, modifiers, weak, strong })
+        Ok(Terms {
+            restriction,
+            modifiers,
+            weak,
+            strong,
+        })
     }
 
     // The view that the fields make.
@@ -158,8 +172,22 @@ impl Records {
         let controlled = fields.controlled(self.types.len())?;
         let bases = fields.numbers(self.views.len())?;
         let required = fields.numbers(self.views.len())?;
-        let Terms { restriction, modifiers, weak, strong } = self.terms_from(fields)?;
-        Ok(Record::AView(View { place, controlled, bases, required, restriction, modifiers, weak, strong }))
+        let Terms {
+            restriction,
+            modifiers,
+            weak,
+            strong,
+        } = self.terms_from(fields)?;
+        Ok(Record::AView(View {
+            place,
+            controlled,
+            bases,
+            required,
+            restriction,
+            modifiers,
+            weak,
+            strong,
+        }))
     }
 
     // The record of a kind that the fields make.
