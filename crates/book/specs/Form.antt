@@ -57,6 +57,7 @@ extent p n bs =
     (cond (ltb (length bs) (2 + span (layout p) (getD bs 1 0))) (broken Ends)
     (whole p (2 + span (layout p) (getD bs 1 0))))))
 
+-- the same, where the kind byte opened a kind or none
 abbrev pub cutAs : Option Phase → (Phase → ℕ) → List ℕ → Cut
 cutAs None n bs = broken Order
 cutAs (Some p) n bs = extent p (n p) bs
@@ -65,23 +66,27 @@ cutAs (Some p) n bs = extent p (n p) bs
 abbrev pub cut : Phase → (Phase → ℕ) → List ℕ → Cut
 cut p n bs = cutAs (opened p (getD bs 0 0)) n bs
 
--- what is wrong with the bytes of a field that is present, where numbers below n are declared
+-- what is wrong with a set of numbers that is present, where those below n are declared
 abbrev pub wrongNames : ℕ → List ℕ → Option Refusal
 wrongNames n bs = cond (isEmpty (setOf bs)) (Some Empty) (cond (isBelow n (setOf bs)) None (Some Undeclared))
 
+-- what is wrong with a set of operations that is present
 abbrev pub wrongOperations : List ℕ → Option Refusal
 wrongOperations bs = cond (isEmpty (setOf bs)) (Some Empty) None
 
+-- what is wrong with a controlled type, where types below n are declared
 abbrev pub wrongControlled : ℕ → List ℕ → Option Refusal
 wrongControlled n bs = cond (ltb (getD bs 0 0) n) None (Some Undeclared)
 
+-- what is wrong with modifiers that are present
 abbrev pub wrongModifiers : List ℕ → Option Refusal
 wrongModifiers bs = cond (eqb (getD bs 0 0) 0) (Some Empty) (cond (leb (getD bs 0 0) 7) None (Some Undeclared))
 
+-- what is wrong with the two sets of denials where they are present
 abbrev pub wrongDenials : List ℕ → Option Refusal
 wrongDenials bs = cond (isEmpty (setOf (take 8 bs)) && isEmpty (setOf (drop 8 bs))) (Some Empty) None
 
--- the same, after the records that are there
+-- what is wrong with the bytes of a field that is present, after the records that are there
 abbrev pub wrong : Contents → Field → List ℕ → Option Refusal
 wrong c (names p) bs = wrongNames (count p c) bs
 wrong c operations bs = wrongOperations bs
@@ -106,6 +111,7 @@ abbrev pub pieces : List Field → ℕ → List ℕ → List (List ℕ)
 pieces [] m bs = []
 pieces (f ∷ fs) m bs = piece (width f) m bs ∷ pieces fs (m / 2) (behind (width f) m bs)
 
+-- the first of two, where it is anything
 abbrev pub orElse : Option Refusal → Option Refusal → Option Refusal
 orElse (Some r) o = Some r
 orElse None o = o
@@ -115,13 +121,15 @@ abbrev pub firstWrong : Contents → List Field → ℕ → List ℕ → Option 
 firstWrong c [] m bs = None
 firstWrong c (f ∷ fs) m bs = orElse (wrongNext (wrong c f) (width f) m bs) (firstWrong c fs (m / 2) (behind (width f) m bs))
 
--- the records that fields make, at a place
+-- the type that fields make, at a place
 abbrev pub typeFrom : ℕ → List (List ℕ) → TypeRecord
 typeFrom at fs = record { place = at; supertypes = setOf (getD fs 0 []); operations = setOf (getD fs 1 []) }
 
+-- the role that fields make
 abbrev pub roleFrom : ℕ → List (List ℕ) → RoleRecord
 roleFrom at fs = record { place = at; superroles = setOf (getD fs 0 []) }
 
+-- the group that fields make
 abbrev pub groupFrom : ℕ → List (List ℕ) → GroupRecord
 groupFrom at fs = record { place = at; supergroups = setOf (getD fs 0 []); roles = setOf (getD fs 1 []) }
 
@@ -141,6 +149,7 @@ termsFrom fs = record {
   strong = rightsFrom (drop 2 fs) .1;
 }
 
+-- the view that fields make
 abbrev pub viewFrom : ℕ → List (List ℕ) → View
 viewFrom at fs = record {
   place = at;
@@ -153,9 +162,11 @@ viewFrom at fs = record {
   strong = termsFrom (drop 3 fs) .strong;
 }
 
+-- the subject that fields make
 abbrev pub subjectFrom : ℕ → List (List ℕ) → SubjectRecord
 subjectFrom at fs = record { place = at; groups = setOf (getD fs 0 []) }
 
+-- the record of a kind that fields make
 abbrev pub recordFrom : Phase → ℕ → List (List ℕ) → Record
 recordFrom Types at fs = AType (typeFrom at fs)
 recordFrom Roles at fs = ARole (roleFrom at fs)
@@ -177,20 +188,23 @@ start = record { phase = Types; place = 1; contents = nothing }
 abbrev pub advanced : State → ℕ → Phase → Record → State
 advanced s size p r = record { phase = p; place = s .place + size; contents = filed (s .contents) r }
 
+-- a refusal at a place
 abbrev pub refused : Refusal → ℕ → Result (List Record) Fault
 refused r at = Err (record { refusal = r; place = at })
 
+-- one record, and then the others, where these are not refused
 abbrev pub prepended : Record → Result (List Record) Fault → Result (List Record) Fault
 prepended r (Ok rs) = Ok (r ∷ rs)
 prepended r (Err f) = Err f
 
--- what a record is, or is refused for, and then what the rest of the bytes holds
+-- the records from a whole one on, by what is wrong with its fields; `rest` tells of those behind it
 abbrev pub afterFields : (State → List ℕ → Result (List Record) Fault) → State → List ℕ → Phase → ℕ → Option Refusal → Result (List Record) Fault
 afterFields rest s bs p size (Some r) = refused r (s .place)
 afterFields rest s bs p size None =
     let r : Record = recordFrom p (s .place) (pieces (layout p) (getD bs 1 0) (drop 2 bs)) in
     prepended r (rest (advanced s size p r) (drop size bs))
 
+-- the records from here on, by where the first of them ends
 abbrev pub afterCut : (State → List ℕ → Result (List Record) Fault) → State → List ℕ → Cut → Result (List Record) Fault
 afterCut rest s bs (broken r) = refused r (s .place)
 afterCut rest s bs (whole p size) = afterFields rest s bs p size (firstWrong (s .contents) (layout p) (getD bs 1 0) (drop 2 bs))
@@ -208,6 +222,7 @@ opening bs =
     (cond (not (eqb (getD bs 0 0) 1)) (Some Version)
     None)
 
+-- the records of a book, by what is wrong before the first of them
 abbrev pub afterOpening : Option Refusal → List ℕ → Result (List Record) Fault
 afterOpening (Some r) bs = refused r 0
 afterOpening None bs = recordsIn (length bs) start (drop 1 bs)

@@ -47,10 +47,11 @@ pub data Field : Type 0 where
   -- two sets of operations, those denied weakly and those denied strongly
   denials : Field
 
--- the last fields of a view: its rights, and before them who may hold it and how
+-- the last fields of a view: its rights
 abbrev pub rightsFields : List Field
 rightsFields = operations ∷ operations ∷ denials ∷ []
 
+-- and before them, who may hold it and how
 abbrev pub termsFields : List Field
 termsFields = names Roles ∷ modifiers ∷ rightsFields
 

@@ -3,6 +3,7 @@ use Prim.Native.Nat.{ℕ}
 use Rattle.book.specs.declared.refusal.Refusal.{Refusal}
 use Rattle.book.specs.declared.refusal.Refusal.the-variants.{Size, Version, Order, Ends, Map, Empty, TooMany, Undeclared}
 
+-- the number of a refusal
 abbrev pub numberOf : Refusal → ℕ
 numberOf Size = 1
 numberOf Version = 2
