@@ -1,22 +1,21 @@
 -- When a record is whole, and what is then known of it.
-use mathlib.Core.Path.{_≡_, refl, sym, ap, ap₂, _∙_, subst}
-use mathlib.Core.Bool.{Bool, true, false, cond, not, _&&_, _||_}
-use mathlib.Core.Logic.{_⊎_, inl, inr, ⊎-elim}
+use mathlib.Core.Path.{_≡_, refl, sym, ap, _∙_, subst}
+use mathlib.Core.Bool.{Bool, true, false, cond, not, _&&_}
+use mathlib.Core.Logic.{_⊎_, ⊎-elim}
 use mathlib.Core.List.{List, [], _∷_}
-use Prim.Native.Nat.{ℕ, zero, suc, _+_, _/_, _%_, _^_, _≤_, _<_}
+use Prim.Native.Nat.{ℕ, _+_, _/_, _^_, _≤_, _<_}
 use native.Mathlib.Omega.{arith}
 use lib.Dec.{eqb, leb, ltb}
-use lib.ListN.{length, getD, take, drop}
+use lib.ListN.{length, getD, take}
 use Rattle.std.specs.declared.option.Option.{Option}
 use Rattle.std.specs.declared.option.Option.the-variants.{Some, None}
 use Rattle.std.proofs.shelf.Tests.{eqb-true, cases-bool, leb-true, leb-false, ltb-false, le-leb, lt-leb, le-ltb, or-parts, or-from, and-left, and-right, not-false}
 use Rattle.std.proofs.shelf.Lists.{length-take-le}
 use Rattle.book.specs.declared.phase.Phase.{Phase}
 use Rattle.book.specs.declared.phase.Phase.the-variants.{Types, Roles, Groups, Views, Subjects}
-use Rattle.book.specs.declared.refusal.Refusal.{Refusal}
-use Rattle.book.specs.declared.refusal.Refusal.the-variants.{Order, Ends, Map, TooMany}
+use Rattle.book.specs.declared.refusal.Refusal.the-variants.{Ends, Map, TooMany}
 use Rattle.book.specs.Layout.{kindOf, kindNamed, limit, names, operations, modifiers, denials, layout, needsFirst}
-use Rattle.book.specs.Form.{opened, marked, span, unfit, Cut, whole, broken, extent, cutAs, cut, pieces}
+use Rattle.book.specs.Form.{opened, marked, span, unfit, whole, broken, extent, cutAs, cut, pieces}
 use Rattle.book.proofs.Fieldwise.{Needed}
 
 -- what is known of a record of kind p that is whole

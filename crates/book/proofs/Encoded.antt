@@ -1,12 +1,11 @@
 -- A book passes exactly when it is the encoding of records that keep the form's rules.
 use mathlib.Core.Path.{_≡_, refl, sym, ap, ap₂, _∙_, subst}
 use mathlib.Core.Bool.{Bool, true, false, cond, not, _||_}
-use mathlib.Core.Logic.{_⊎_, inl, inr, ⊎-elim}
 use mathlib.Core.List.{List, [], _∷_, _++_}
 use Prim.Native.Nat.{ℕ, zero, suc, _+_, _-_, _≤_, _<_}
 use native.Mathlib.Omega.{arith}
 use lib.Dec.{eqb, ltb}
-use lib.ListN.{length, getD, take, drop}
+use lib.ListN.{length, take, drop}
 use Rattle.std.specs.declared.option.Option.{Option}
 use Rattle.std.specs.declared.option.Option.the-variants.{Some, None}
 use Rattle.std.specs.declared.result.Result.{Result}
@@ -14,22 +13,21 @@ use Rattle.std.specs.declared.result.Result.the-variants.{Ok, Err}
 use Rattle.std.specs.shelf.Digits.{Under}
 use Rattle.std.specs.shelf.Lists.{joined}
 use Rattle.std.proofs.shelf.Elements.{all-take, all-drop}
-use Rattle.std.proofs.shelf.Lists.{append-assoc, take-at, drop-at, length-append, length-drop, length-take-le, take-append-drop}
-use Rattle.std.proofs.shelf.Tests.{eqb-true, eq-eqb, eqb-false, ne-eqb, le-ltb, ltb-false, or-parts, or-from, not-false, not-from-true}
-use Rattle.sets.specs.Members.{Iff}
+use Rattle.std.proofs.shelf.Lists.{take-at, drop-at, length-append, length-drop, length-take-le, take-append-drop}
+use Rattle.std.proofs.shelf.Tests.{eqb-true, eq-eqb, ne-eqb, le-ltb, ltb-false, or-parts, or-from, not-false}
 use Rattle.book.specs.declared.phase.Phase.{Phase}
 use Rattle.book.specs.declared.refusal.Refusal.{Refusal}
 use Rattle.book.specs.declared.refusal.Refusal.the-variants.{Size, Version}
 use Rattle.book.specs.declared.refusal.Fault.{Fault}
 use Rattle.book.specs.Layout.{kindOf, limit, layout, needsFirst}
-use Rattle.book.specs.Contents.{Record, AType, ARole, AGroup, AView, ASubject, count, phaseOf, placeOf}
+use Rattle.book.specs.Contents.{Record, AType, ARole, AGroup, AView, ASubject, count, phaseOf}
 use Rattle.book.specs.Encoding.{fieldsOf, mapOf, together, encodeRecord, encode}
-use Rattle.book.specs.Form.{marked, span, pieces, firstWrong, Cut, whole, broken, cut, recordFrom, State, start, advanced, refused, prepended, afterFields, afterCut, recordsIn, afterOpening, form}
+use Rattle.book.specs.Form.{marked, span, pieces, firstWrong, Cut, whole, broken, cut, recordFrom, State, start, advanced, prepended, afterFields, afterCut, recordsIn, afterOpening, form}
 use Rattle.book.specs.FormRules.{Next, Ordered, Formed}
 use Rattle.book.specs.FormLaws.{PassesAsEncoded}
 use Rattle.book.proofs.Pieces.{Fields, Fine, map-below, span-is, pieces-back, none-wrong, fine-pieces, map-back, together-back}
 use Rattle.book.proofs.Fieldwise.{from-fields, to-fields, phase-from, place-from}
-use Rattle.book.proofs.Cuts.{Extent, Whole, cut-whole, whole-cut, fit-below, needed, unfit-not}
+use Rattle.book.proofs.Cuts.{Whole, cut-whole, whole-cut, fit-below, needed, unfit-not}
 
 ok-same : (rs ss : List Record) → _≡_ {A = Result (List Record) Fault} (Ok rs) (Ok ss) → rs ≡ ss
 ok-same rs ss e = cc

@@ -1,12 +1,10 @@
 -- Records and their fields' bytes, kind by kind.
-use mathlib.Core.Path.{_≡_, refl, sym, ap, ap₂, _∙_, subst}
-use mathlib.Core.Bool.{true, false}
+use mathlib.Core.Path.{_≡_, refl, ap, ap₂}
+use mathlib.Core.Bool.{true}
 use mathlib.Core.List.{List, [], _∷_}
 use Prim.Native.Nat.{ℕ, _<_}
-use native.Mathlib.Omega.{arith}
 use lib.ListN.{length, getD}
 use Rattle.std.specs.shelf.Digits.{Under}
-use Rattle.sets.specs.declared.NumberSet.{NumberSet}
 use Rattle.book.specs.declared.phase.Phase.{Phase}
 use Rattle.book.specs.declared.phase.Phase.the-variants.{Types, Roles, Groups, Views, Subjects}
 use Rattle.book.specs.Layout.{layout, needsFirst}

@@ -1,5 +1,5 @@
 -- The part that a reader hands out.
-use mathlib.Core.Path.{_≡_, refl, sym, ap, _∙_, subst}
+use mathlib.Core.Path.{_≡_, refl, sym, ap, _∙_}
 use mathlib.Core.Bool.{false}
 use mathlib.Core.List.{List}
 use Prim.Native.Nat.{ℕ, _+_, _-_, _≤_, _<_}
@@ -9,8 +9,7 @@ use lib.ListN.{length, take, drop}
 use Rattle.std.proofs.shelf.Lists.{take-rest, length-take-le, length-drop}
 use Rattle.std.proofs.shelf.Tests.{eqb-false}
 use Rattle.book.specs.declared.phase.Phase.{Phase}
-use Rattle.book.specs.declared.refusal.Refusal.{Refusal}
-use Rattle.book.specs.Form.{Cut, whole, broken, cut}
+use Rattle.book.specs.Form.{Cut, whole, cut}
 use Rattle.book.specs.FormLaws.{numbered}
 use Rattle.book.specs.Reading.{Handed}
 use Rattle.book.proofs.Cuts.{cut-whole}

@@ -9,13 +9,12 @@ use Rattle.std.specs.declared.option.Option.the-variants.{Some, None}
 use Rattle.std.specs.declared.result.Result.the-variants.{Ok}
 use Rattle.std.proofs.shelf.Lists.{take-append-drop, length-drop}
 use Rattle.book.specs.declared.phase.Phase.{Phase}
-use Rattle.book.specs.declared.phase.Phase.the-variants.{Types}
 use Rattle.book.specs.declared.refusal.Refusal.{Refusal}
 use Rattle.book.specs.Layout.{layout, kindOf}
 use Rattle.book.specs.Contents.{Record, count, filed}
 use Rattle.book.specs.Encoding.{together}
-use Rattle.book.specs.Form.{Cut, whole, broken, cut, pieces, firstWrong, recordFrom, State, start, advanced, afterFields, afterCut, recordsIn, opening, afterOpening, form}
-use Rattle.book.specs.FormLaws.{numbered, partsAs, partsIn, partsOf, PartsAreTheBook}
+use Rattle.book.specs.Form.{Cut, whole, broken, cut, pieces, firstWrong, recordFrom, State, start, advanced, afterFields, afterCut, recordsIn, opening, afterOpening}
+use Rattle.book.specs.FormLaws.{numbered, partsAs, partsIn, PartsAreTheBook}
 use Rattle.book.proofs.Cuts.{cut-whole}
 use Rattle.book.proofs.Fieldwise.{phase-from}
 use Rattle.book.proofs.Encoded.{not-ok, prepended-ok}

@@ -3,7 +3,7 @@ use mathlib.Core.Path.{_≡_, refl, sym, ap, ap₂, _∙_, subst}
 use mathlib.Core.Bool.{Bool, true, false, cond}
 use mathlib.Core.Logic.{_⊎_, inl, inr, ⊎-elim}
 use mathlib.Core.List.{List, [], _∷_, _++_}
-use Prim.Native.Nat.{ℕ, zero, suc, _+_, _*_, _/_, _%_, _^_, _≤_, _<_}
+use Prim.Native.Nat.{ℕ, _+_, _*_, _/_, _^_, _≤_, _<_}
 use native.Mathlib.Nat.{pow-suc}
 use native.Mathlib.Omega.{arith}
 use lib.ListN.{length, take, drop}
@@ -18,7 +18,7 @@ use Rattle.book.specs.declared.refusal.Refusal.{Refusal}
 use Rattle.book.specs.Layout.{Field, names, operations, controlled, modifiers, denials, width}
 use Rattle.book.specs.Contents.{Contents}
 use Rattle.book.specs.Encoding.{mapOf, together}
-use Rattle.book.specs.Form.{marked, span, piece, behind, pieces, wrong, orElse, firstWrong}
+use Rattle.book.specs.Form.{marked, span, pieces, wrong, orElse, firstWrong}
 
 -- each field has no bytes, or as many as it is wide and of which Q holds
 abbrev pub Fields : (Field → List ℕ → Type 0) → List Field → List (List ℕ) → Type 0

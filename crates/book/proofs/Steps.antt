@@ -1,12 +1,11 @@
 -- A reading goes on record by record: what is left gives the whole.
 use mathlib.Core.Path.{_≡_, refl, sym, ap, ap₂, _∙_, subst}
-use mathlib.Core.Bool.{Bool, true, false, cond}
-use mathlib.Core.Logic.{_⊎_, inl, inr, ⊎-elim}
+use mathlib.Core.Bool.{true, false}
+use mathlib.Core.Logic.{_⊎_, ⊎-elim}
 use mathlib.Core.List.{List, [], _∷_}
 use Prim.Native.Nat.{ℕ, zero, suc, _+_, _-_, _/_, _≤_, _<_, min}
 use native.Mathlib.Omega.{arith}
 use lib.ListN.{length, getD, take, drop}
-use Rattle.std.specs.declared.option.Option.{Option}
 use Rattle.std.specs.declared.option.Option.the-variants.{Some, None}
 use Rattle.std.specs.declared.result.Result.{Result}
 use Rattle.std.specs.declared.result.Result.the-variants.{Ok, Err}
@@ -18,8 +17,8 @@ use Rattle.book.specs.declared.refusal.Refusal.{Refusal}
 use Rattle.book.specs.declared.refusal.Fault.{Fault}
 use Rattle.book.specs.declared.position.Position.{Position}
 use Rattle.book.specs.Layout.{Field, width, layout, limit, kindOf}
-use Rattle.book.specs.Contents.{Record, Contents, nothing, count, filed, phaseOf}
-use Rattle.book.specs.Form.{marked, span, piece, behind, pieces, wrong, wrongNext, orElse, firstWrong, Cut, whole, broken, cut, recordFrom, State, advanced, prepended, refused, afterCut, afterFields, recordsIn, filing, opening, afterOpening, reading}
+use Rattle.book.specs.Contents.{Record, Contents, nothing, count, filed}
+use Rattle.book.specs.Form.{marked, span, pieces, wrong, orElse, firstWrong, whole, broken, cut, recordFrom, State, prepended, afterCut, afterFields, recordsIn, filing, opening, afterOpening, reading}
 use Rattle.book.specs.FormLaws.{numbered}
 use Rattle.book.specs.Reading.{Handed, Hands, passed}
 use Rattle.book.proofs.Cuts.{Whole, cut-whole}

@@ -1,12 +1,11 @@
 -- A reader that counts the records of the last kind knows as much as one that counts all.
-use mathlib.Core.Path.{_≡_, refl, sym, ap, _∙_, subst}
-use mathlib.Core.Bool.{true, false, cond}
-use mathlib.Core.Logic.{_⊎_, inl, inr, ⊎-elim}
-use mathlib.Core.List.{List, [], _∷_}
-use Prim.Native.Nat.{ℕ, _+_, _≤_, _<_}
+use mathlib.Core.Path.{_≡_, refl, sym, ap, _∙_}
+use mathlib.Core.Bool.{cond}
+use mathlib.Core.Logic.{_⊎_, ⊎-elim}
+use mathlib.Core.List.{List}
+use Prim.Native.Nat.{ℕ, _+_, _≤_}
 use native.Mathlib.Omega.{arith}
-use lib.Dec.{eqb}
-use lib.ListN.{length, getD}
+use lib.ListN.{getD}
 use Rattle.std.specs.declared.option.Option.{Option}
 use Rattle.std.specs.declared.option.Option.the-variants.{Some, None}
 use Rattle.std.proofs.shelf.Lists.{length-push}
@@ -15,7 +14,7 @@ use Rattle.book.specs.declared.phase.Phase.{Phase}
 use Rattle.book.specs.declared.phase.Phase.the-variants.{Types, Roles, Groups, Views, Subjects}
 use Rattle.book.specs.Layout.{kindOf, kindNamed}
 use Rattle.book.specs.Contents.{Record, AType, ARole, AGroup, AView, ASubject, Contents, nothing, count, filed, phaseOf}
-use Rattle.book.specs.Form.{opened, Cut, cutAs, cut, extent}
+use Rattle.book.specs.Form.{opened, cutAs, cut, extent}
 use Rattle.book.specs.FormLaws.{numbered}
 use Rattle.book.proofs.Cuts.{kind-named, opened-kind}
 

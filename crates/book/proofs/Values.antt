@@ -3,26 +3,24 @@ use mathlib.Core.Path.{_≡_, refl, sym, ap, ap₂, _∙_, subst}
 use mathlib.Core.Bool.{Bool, true, false, cond, _&&_}
 use mathlib.Core.Logic.{_⊎_, inl, inr, ⊎-elim}
 use mathlib.Core.List.{List, [], _∷_, _++_}
-use Prim.Native.Nat.{ℕ, zero, suc, _+_, _*_, _/_, _%_, _^_, _≤_, _<_}
+use Prim.Native.Nat.{ℕ, _+_, _^_, _≤_, _<_}
 use native.Mathlib.Omega.{arith}
-use lib.Dec.{eqb, leb, ltb}
+use lib.Dec.{eqb, leb}
 use lib.ListN.{length, getD, take, drop}
-use Rattle.std.specs.declared.option.Option.{Option}
 use Rattle.std.specs.declared.option.Option.the-variants.{Some, None}
 use Rattle.std.specs.shelf.Digits.{number, Under}
 use Rattle.std.proofs.shelf.Digits.{number-lt}
 use Rattle.std.proofs.shelf.Elements.{all-take, all-drop, all-append}
 use Rattle.std.proofs.shelf.Lists.{take-at, drop-at, length-append, length-take-le, length-drop, take-append-drop}
-use Rattle.std.proofs.shelf.Tests.{eq-eqb, ne-eqb, eqb-true, eqb-false, cases-bool, ltb-true, lt-ltb, leb-true, le-leb, both-ways, and-cases, and-parts, cond-false, cond-true}
+use Rattle.std.proofs.shelf.Tests.{eqb-true, cases-bool, ltb-true, lt-ltb, leb-true, le-leb, and-parts, cond-false, cond-true}
 use Rattle.sets.specs.declared.NumberSet.{NumberSet}
 use Rattle.sets.specs.Members.{In}
 use Rattle.sets.specs.Tests.{isEmpty, isBelow}
-use Rattle.sets.specs.Bytes.{setOf, bytesOf, bytesIn}
+use Rattle.sets.specs.Bytes.{setOf, bytesOf}
 use Rattle.sets.proofs.ByteValues.{bytes-back, number-back, length-bytes, bytes-under}
 use Rattle.sets.proofs.Membership.{below}
 use Rattle.book.specs.declared.phase.Phase.{Phase}
 use Rattle.book.specs.declared.phase.Phase.the-variants.{Types}
-use Rattle.book.specs.declared.refusal.Refusal.{Refusal}
 use Rattle.book.specs.declared.refusal.Refusal.the-variants.{Empty, Undeclared}
 use Rattle.book.specs.Layout.{Field, names, operations, controlled, modifiers, denials, width}
 use Rattle.book.specs.Contents.{Contents, count}

@@ -6,8 +6,7 @@ use lib.Dec.{eqb}
 use lib.ListN.{length, take, drop}
 use mathlib.Core.Bool.{cond}
 use Rattle.std.specs.shelf.Digits.{Under}
-use Rattle.std.specs.declared.result.Result.{Result}
-use Rattle.std.specs.declared.result.Result.the-variants.{Ok, Err}
+use Rattle.std.specs.declared.result.Result.the-variants.{Ok}
 use Rattle.sets.specs.Members.{Iff}
 use Rattle.book.specs.declared.phase.Phase.{Phase}
 use Rattle.book.specs.declared.phase.Phase.the-variants.{Types}

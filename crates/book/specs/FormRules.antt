@@ -1,12 +1,12 @@
 -- The rules of the form, as rules on records.
-use Prim.Native.Nat.{ℕ, _+_, _^_, _<_, _≤_}
+use Prim.Native.Nat.{ℕ, _^_, _<_, _≤_}
 use mathlib.Core.Path.{_≡_}
 use mathlib.Core.List.{List, [], _∷_}
 use lib.ListN.{length}
 use Rattle.sets.specs.declared.NumberSet.{NumberSet}
 use Rattle.sets.specs.Members.{In}
 use Rattle.book.specs.declared.phase.Phase.{Phase}
-use Rattle.book.specs.declared.phase.Phase.the-variants.{Types, Roles, Groups, Views, Subjects}
+use Rattle.book.specs.declared.phase.Phase.the-variants.{Types, Roles, Groups, Views}
 use Rattle.book.specs.Layout.{kindOf, limit}
 use Rattle.book.specs.Contents.{Record, AType, ARole, AGroup, AView, ASubject, Contents, count, phaseOf, placeOf}
 use Rattle.book.specs.Encoding.{encodeRecord, encode}

@@ -12,7 +12,7 @@ use Rattle.book.specs.declared.refusal.Refusal.{Refusal}
 use Rattle.book.specs.declared.refusal.Fault.{Fault}
 use Rattle.book.specs.declared.part.Part.{Part}
 use Rattle.book.specs.declared.position.Position.{Position}
-use Rattle.book.specs.Form.{behind, cut, Cut, whole, broken}
+use Rattle.book.specs.Form.{behind, cut, whole, broken}
 use Rattle.book.specs.FormLaws.{numbered}
 
 -- the answer is x where nothing is wrong, and else what is wrong

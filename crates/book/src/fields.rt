@@ -6,7 +6,6 @@ ghost use lib.ListN.{length, getD, take, drop};
 ghost use Rattle.sets.specs.Bytes.{setOf};
 ghost use Rattle.book.specs.Form.{marked, piece, wrongNext, wrongNames, wrongOperations, wrongControlled, wrongModifiers, wrongDenials};
 ghost use Rattle.book.specs.Reading.{Told, Moved};
-use crate::records::Rights;
 use crate::refusal::Refusal;
 use sets::NumberSet;
 

@@ -2,7 +2,7 @@
 use book::refusal::Refusal;
 
 /// What is wrong with the book.
-pub fn explanation(refusal: Refusal) -> &'static str {
+pub(crate) fn explanation(refusal: Refusal) -> &'static str {
     match refusal {
         Refusal::Size => "the book is empty, or has more than 16384 bytes",
         Refusal::Version => "the first byte is not 01",

@@ -1,6 +1,6 @@
 -- Numbers and their bytes, the highest first.
 use mathlib.Core.Path.{_≡_, refl, sym, ap, _∙_, subst}
-use mathlib.Core.Logic.{_⊎_, inl, inr, ⊎-elim}
+use mathlib.Core.Logic.{_⊎_, ⊎-elim}
 use mathlib.Core.List.{List, [], _∷_, _++_}
 use Prim.Native.Nat.{ℕ, zero, suc, _+_, _-_, _*_, _/_, _%_, _^_, _<_, _≤_}
 use native.Mathlib.Nat.{pow-suc}
@@ -8,8 +8,8 @@ use native.Mathlib.Numerals.{add-one}
 use native.Mathlib.Omega.{arith}
 use lib.ListN.{length, getD, take}
 use Rattle.std.specs.shelf.Digits.{number, Under}
-use Rattle.std.proofs.shelf.Bits.{pow-pos, pow-add, shr-shr, div-mul-add, mod-mul-add, field-of, mod-pow-add}
-use Rattle.std.proofs.shelf.Digits.{number-push, number-more, number-lt}
+use Rattle.std.proofs.shelf.Bits.{shr-shr, div-mul-add, mod-mul-add, field-of, mod-pow-add}
+use Rattle.std.proofs.shelf.Digits.{number-push, number-more}
 use Rattle.std.proofs.shelf.Elements.{all-getD, all-push}
 use Rattle.std.proofs.shelf.Lists.{take-more, take-all, length-push}
 use Rattle.std.proofs.shelf.Tests.{cases-lt}

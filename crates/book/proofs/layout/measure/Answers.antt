@@ -1,11 +1,10 @@
-use mathlib.Core.Path.{_≡_, sym, ap, _∙_, subst}
+use mathlib.Core.Path.{sym, ap, _∙_, subst}
 use mathlib.Core.List.{map}
-use Prim.Native.Nat.{_+_, _/_, _^_, _<_, _≤_}
+use Prim.Native.Nat.{_+_, _/_, _^_}
 use native.Mathlib.Omega.{arith}
-use lib.ListN.{length, getD}
+use lib.ListN.{length}
 use Rattle.std.proofs.shelf.Tests.{eq-eqb, ne-eqb}
-use Rattle.book.specs.Layout.{layout, width}
-use Rattle.book.specs.Form.{marked}
+use Rattle.book.specs.Layout.{layout}
 use Rattle.book.proofs.Spans.{Counted, spanOf, counted-none, counted-more, counted-pass, counted-fits, counted-all, span-small, span-widths, unfit-past, unfit-first, fits}
 use Rattle.book.proofs.layout.measure.Needs as need
 use Rattle.book.proofs.layout.measure.Needs.{then-left-eq1, else-left-eq1, then-left-gt0·by·then-left-gt0, then-left-gt0·by·else-left-gt0·then-lacks-type}

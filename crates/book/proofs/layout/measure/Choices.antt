@@ -1,6 +1,4 @@
-use mathlib.Core.Path.{_≡_}
 use mathlib.Core.List.{map}
-use Rattle.book.specs.Layout.{layout, width}
 use Rattle.book.proofs.Spans.{Counted}
 use Rattle.book.proofs.layout.measure.Given as given
 

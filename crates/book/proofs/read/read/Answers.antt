@@ -1,15 +1,11 @@
 use mathlib.Core.Path.{_≡_, refl, sym, ap, _∙_, subst}
-use mathlib.Core.List.{List}
-use Prim.Native.Nat.{ℕ, _<_, _≤_}
+use Prim.Native.Nat.{_<_}
 use native.Mathlib.Omega.{arith}
 use lib.ListN.{length, getD, drop}
-use Rattle.std.specs.declared.option.Option.{Option}
-use Rattle.std.specs.declared.option.Option.the-variants.{Some, None}
+use Rattle.std.specs.declared.option.Option.the-variants.{Some}
 use Rattle.std.specs.declared.result.Result.the-variants.{Ok, Err}
 use Rattle.std.specs.Results.{Cases}
 use Rattle.std.proofs.shelf.Results.{err-from-errBy}
-use Rattle.book.specs.declared.part.Part.{Part}
-use Rattle.book.specs.declared.position.Position.{Position}
 use Rattle.book.specs.Layout.{limit, layout}
 use Rattle.book.specs.Contents.{contentsOf, nothing, count, filed, phaseOf}
 use Rattle.book.specs.Form.{filing, afterOpening, reading, pieces, recordFrom}
@@ -17,7 +13,7 @@ use Rattle.book.specs.Reading.{Handed, Hands, passed}
 use Rattle.book.proofs.Encoded.{passes-as-encoded}
 use Rattle.book.proofs.Fieldwise.{phase-from}
 use Rattle.book.proofs.Parts.{parts-are-the-book}
-use Rattle.book.proofs.Steps.{Going, front, begins, going-there, ends, breaks, part-whole, part-room, fails, goes-on}
+use Rattle.book.proofs.Steps.{front, begins, going-there, ends, breaks, part-whole, part-room, fails, goes-on}
 use Rattle.book.proofs.read.read.Needs as need
 use Rattle.book.proofs.read.read.Needs.{In-Some}
 

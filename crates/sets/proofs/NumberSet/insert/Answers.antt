@@ -1,5 +1,4 @@
 use mathlib.Core.Logic.{inl, inr, ⊎-elim}
-use native.Mathlib.Omega.{arith}
 use Rattle.sets.proofs.Membership.{in-with}
 use Rattle.sets.proofs.NumberSet.insert.Needs as need
 

@@ -1,9 +1,8 @@
 use mathlib.Core.Path.{sym, _∙_}
 use Prim.Native.Nat.{_<_, _^_}
 use native.Mathlib.Omega.{arith}
-use Rattle.std.proofs.shelf.Tests.{ltb-true, lt-ltb, eqb-true, eq-eqb, le-leb, cases-bool}
+use Rattle.std.proofs.shelf.Tests.{lt-ltb, eqb-true, eq-eqb, le-leb}
 use Rattle.std.proofs.shelf.Ways.{same-from-decides, decides-eqb, decides-ltb, decides-like}
-use Rattle.std.proofs.shelf.Bits.{pow-below}
 use lib.Pow.{pow-mono}
 use Rattle.sets.proofs.Membership.{below, shifted-out}
 use Rattle.sets.proofs.NumberSet.is_below.Needs as need

@@ -1,7 +1,6 @@
 use Prim.Native.Nat.{_<_}
-use mathlib.Core.Path.{_≡_, sym, _∙_}
+use mathlib.Core.Path.{sym, _∙_}
 use native.Mathlib.Omega.{arith}
-use lib.ListN.{length, take}
 use Rattle.std.proofs.shelf.Lists.{length-take-le, getD-take, getD-default}
 use Rattle.book.proofs.table.Table.get.Needs as need
 
