@@ -1,4 +1,6 @@
 //! Which books are accepted: the rules that records keep, and the accepted book.
+#![tactic(auto)]
+
 pub mod accepted;
 mod clash;
 mod extension;

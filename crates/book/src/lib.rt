@@ -1,4 +1,6 @@
 //! A site's book of definitions: its bytes, its records, and what its form is refused for.
+#![tactic(auto)]
+
 pub mod contents;
 mod fields;
 mod layout;

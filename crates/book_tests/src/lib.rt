@@ -1,4 +1,6 @@
 //! Tests of books, on examples.
+#![tactic(auto)]
+
 #[cfg(test)]
 mod books;
 #[cfg(test)]

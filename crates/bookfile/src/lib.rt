@@ -1,4 +1,6 @@
 //! The file `book` of the current folder.
+#![tactic(auto)]
+
 ghost use Rattle.std.specs.Prelude.{◌≤◌, length};
 
 use std::fs::File;

@@ -1,4 +1,6 @@
 //! Lists the book in the current folder, or says why its form is refused.
+#![tactic(auto)]
+
 use bookfile::{LONGEST, book_bytes};
 use listing::report::report_on;
 use std::io;

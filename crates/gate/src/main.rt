@@ -1,4 +1,6 @@
 //! Loads the book of the current folder, and prints the judgement of it.
+#![tactic(auto)]
+
 use acceptance::accepted::Book;
 use bookfile::{LONGEST, book_bytes};
 use hierarchy::kept::Kept;

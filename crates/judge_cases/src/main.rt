@@ -1,4 +1,6 @@
 //! Judges the books of the input, one to a line in hexadecimal, through both orders.
+#![tactic(auto)]
+
 mod hexadecimal;
 
 use hexadecimal::bytes_of;

@@ -1,4 +1,6 @@
 //! What a book says and how it is judged, as text for its author.
+#![tactic(auto)]
+
 mod inheriting;
 pub mod judged_report;
 pub mod judgement;

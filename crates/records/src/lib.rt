@@ -1,4 +1,6 @@
 //! The records of a book. Each has its place, the offset of its kind byte; a field that the book leaves out is empty.
+#![tactic(auto)]
+
 ghost use Rattle.std.specs.Prelude.{◌≡◌, true};
 ghost use Rattle.sets.specs.Members.{Bit, Iff};
 

@@ -1,4 +1,6 @@
 //! Sets of the numbers 0 to 63, kept as the bits of one word.
+#![tactic(auto)]
+
 ghost use Rattle.std.specs.Prelude.{◌≡◌, ℕ, ◌-◌, ◌/◌, ◌%◌, ◌<◌, true, ◌⊎◌, [], MatchOption, slice_index};
 ghost use Rattle.sets.specs.Members.{Bit, In, Iff};
 ghost use Rattle.sets.specs.Counting.{HowMany};

@@ -1,4 +1,6 @@
 //! A table of a fixed number of places, filled from the front.
+#![tactic(auto)]
+
 ghost use Rattle.std.specs.Prelude.{◌≡◌, ◌≤◌, length};
 
 pub mod methods;

@@ -1,4 +1,6 @@
 //! Says how many worked cases of the definitions were proved to come out as they must.
+#![tactic(auto)]
+
 mod cases;
 
 use cases::worked_cases_hold;
