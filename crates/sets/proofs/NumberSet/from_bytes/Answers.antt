@@ -27,7 +27,7 @@ returns c =
     let l : length ds ≡ 8 = search rules in
     let fit : (i : ℕ) → Fits w8 (get_or ds i 0) = λ i. search rules in
     let u : AllBelowBase 256 ds = All-from_get_or (λ d. d < 256) ds 0 (λ i _. (fit i).fits) in
-    let e : c.from-be-bytes.result ≡ number_from_digits 256 ds = c.from-be-bytes.ensures ∙ sym (written_out ds l) in
+    let e : c.from_be_bytes.result ≡ number_from_digits 256 ds = c.from_be_bytes.ensures ∙ sym (written_out ds l) in
     record {
       value = ap (λ n. let s : NumberSet = record { bits = n } in s) e;
       members = λ k. subst (λ n. Iff (Bit k n) ((k < 64) × Bit (k % 8) (get_or ds (7 - k / 8) 0))) (sym e) (members_of_bytes ds u l k);

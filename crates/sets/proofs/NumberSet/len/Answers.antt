@@ -3,8 +3,8 @@ use lib.Count.{ones-le}
 use Rattle.sets.proofs.Counts.{bits_counted}
 use Rattle.sets.proofs.NumberSet.len.Goals as goal
 
-pub overflow-cast-result : goal.overflow-cast-result
-overflow-cast-result c = let l = ones-le 64 c.args.self.bits (omega arith) in omega arith
+pub overflow_cast-result : goal.overflow_cast-result
+overflow_cast-result c = let l = ones-le 64 c.args.self.bits (omega arith) in omega arith
 
 pub returns : goal.returns
 returns c = bits_counted 64 c.args.self.bits (omega arith)

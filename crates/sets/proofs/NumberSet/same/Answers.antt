@@ -1,10 +1,11 @@
-use Rattle.std.proofs.Common.{sym, subst, arith}
+use Rattle.std.proofs.Common.{sym, ◌∙◌, subst, arith}
+use Rattle.std.proofs.lemmas.Bool.{eqb-true, eq-eqb}
 use Rattle.sets.specs.Members.{Bit}
 use Rattle.sets.proofs.Membership.{ext}
 use Rattle.sets.proofs.NumberSet.same.Goals as goal
 
 pub returns : goal.returns
 returns c = (
-  λ h k. let e = c.eq.ensures.0 h in (subst (Bit k) e, subst (Bit k) (sym e)),
-  λ h. c.eq.ensures.1 (ext 64 c.args.self.bits c.args.other.bits (omega arith) (omega arith) h),
+  λ h k. let e = eqb-true _ _ (sym c.eq.ensures ∙ h) in (subst (Bit k) e, subst (Bit k) (sym e)),
+  λ h. c.eq.ensures ∙ eq-eqb _ _ (ext 64 c.args.self.bits c.args.other.bits (omega arith) (omega arith) h),
 )
