@@ -14,16 +14,16 @@ returns g c =
     let all = contents_of c.args.records.now in
     let i = c.args.first in
     let j = c.args.second in
-    let v = c.view-of.ensures in
-    let w = c.view-of-2.ensures in
-    let not_below : Below (view_links all) i j → ⊥ = λ p. fails c.at-or-below.result c.at-or-below.ensures c.if-at-or-below.false ((c.requires.views i j).1 p) in
-    let not_above : Below (view_links all) j i → ⊥ = λ p. fails c.at-or-below-2.result c.at-or-below-2.ensures c.if-at-or-below-2.false ((c.requires.views j i).1 p) in (
+    let v = c.view_of.ensures in
+    let w = c.view_of-2.ensures in
+    let not_below : Below (view_links all) i j → ⊥ = λ p. fails c.at_or_below.result c.at_or_below.ensures c.if-at_or_below.false ((c.requires.views i j).1 p) in
+    let not_above : Below (view_links all) j i → ⊥ = λ p. fails c.at_or_below-2.result c.at_or_below-2.ensures c.if-at_or_below-2.false ((c.requires.views j i).1 p) in (
       λ e. (
         not_below,
         not_above,
-        subst (λ (y : View). Exists (λ o. Opposed (view_at all i) y o)) w (subst (λ (x : View). Exists (λ o. Opposed x c.view-of-2.result o)) v (c.are-opposed.ensures.0 e)),
+        subst (λ (y : View). Exists (λ o. Opposed (view_at all i) y o)) w (subst (λ (x : View). Exists (λ o. Opposed x c.view_of-2.result o)) v (c.are_opposed.ensures.0 e)),
       ),
       λ r.
-          c.are-opposed.ensures.1
-          (subst (λ (x : View). Exists (λ o. Opposed x c.view-of-2.result o)) (sym v) (subst (λ (y : View). Exists (λ o. Opposed (view_at all i) y o)) (sym w) r.2)),
+          c.are_opposed.ensures.1
+          (subst (λ (x : View). Exists (λ o. Opposed x c.view_of-2.result o)) (sym v) (subst (λ (y : View). Exists (λ o. Opposed (view_at all i) y o)) (sym w) r.2)),
     )

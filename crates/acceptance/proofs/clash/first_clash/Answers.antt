@@ -5,7 +5,7 @@ use Rattle.acceptance.proofs.Clashing.{Before, Unshared, before_none, before_fir
 use Rattle.acceptance.specs.Rules.{Shared}
 use Rattle.acceptance.specs.Checks.{FirstClash}
 use Rattle.acceptance.proofs.clash.first_clash.Goals as goal
-use Rattle.acceptance.proofs.clash.first_clash.Goals.{then-are-rivals+else-loop-kind-test, else-are-rivals}
+use Rattle.acceptance.proofs.clash.first_clash.Goals.{then-are_rivals+else-loop-kind-test, else-are_rivals}
 
 pub pairs-init : goal.pairs-init
 pairs-init g c = (refl, before_none (contents_of c.args.records.now))
@@ -23,7 +23,7 @@ loop-kind-preserved g c =
     let j = c.loop-second.second in (
       c.loop-kind.invariant.0,
       c.loop-kind.invariant.1,
-      below_more (λ t. Shared all i j t → ⊥) c.loop-kind.kind c.loop-kind.invariant.2 (fails c.is-shared.result c.is-shared.ensures c.if-is-shared.false),
+      below_more (λ t. Shared all i j t → ⊥) c.loop-kind.kind c.loop-kind.invariant.2 (fails c.is_shared.result c.is_shared.ensures c.if-is_shared.false),
     )
 
 pub loop-second-preserved : goal.loop-second-preserved
@@ -31,11 +31,11 @@ loop-second-preserved g c =
     let all = contents_of c.args.records.now in
     let i = c.pairs.first in
     let j = c.loop-second.second in
-    elim c.if-are-rivals.branch [
-      | then-are-rivals+else-loop-kind-test w ↦
+    elim c.if-are_rivals.branch [
+      | then-are_rivals+else-loop-kind-test w ↦
           (w.found-is ∙ w.loop-kind.invariant.0, before_more all i j c.loop-second.invariant.1 (no_clash_unshared all i j w.loop-kind.kind (omega arith) w.loop-kind.invariant.2))
-      | else-are-rivals w ↦
-          (w.found-is ∙ c.loop-second.invariant.0, before_more all i j c.loop-second.invariant.1 (λ k. fails c.are-rivals.result c.are-rivals.ensures w.if-are-rivals.false k.0))
+      | else-are_rivals w ↦
+          (w.found-is ∙ c.loop-second.invariant.0, before_more all i j c.loop-second.invariant.1 (λ k. fails c.are_rivals.result c.are_rivals.ensures w.if-are_rivals.false k.0))
     ]
 
 pub pairs-preserved : goal.pairs-preserved
@@ -48,8 +48,8 @@ returns-after-pairs g c =
     let all = contents_of c.args.records.now in
     subst (FirstClash all) (sym c.pairs.invariant.0) (λ i j l m. c.pairs.invariant.1 i j l m (inl (omega arith)))
 
-pub returns-then-is-shared : goal.returns-then-is-shared
-returns-then-is-shared g c =
-    let rivals = c.are-rivals.ensures.0 c.if-are-rivals.true in
-    let shared = c.is-shared.ensures.0 c.if-is-shared.true in
+pub returns-then-is_shared : goal.returns-then-is_shared
+returns-then-is_shared g c =
+    let rivals = c.are_rivals.ensures.0 c.if-are_rivals.true in
+    let shared = c.is_shared.ensures.0 c.if-is_shared.true in
     (omega arith, omega arith, (rivals, ∣ (c.loop-kind.kind, shared) ∣₁), c.loop-second.invariant.1)

@@ -6,46 +6,46 @@ use Rattle.acceptance.specs.Rules.{TypeFollows, RestrictionFollows}
 use Rattle.views.proofs.Tested.{fails}
 use Rattle.acceptance.proofs.extension.base_breach.Goals as goal
 
-pub returns-then-not-restriction-follows : goal.returns-then-not-restriction-follows
-returns-then-not-restriction-follows g c =
+pub returns-then-not-restriction_follows : goal.returns-then-not-restriction_follows
+returns-then-not-restriction_follows g c =
     let all = contents_of c.args.records.now in
     let v = c.args.view.now in
-    let base = c.view-of-base.ensures in
+    let base = c.view_of-base.ensures in
     let named = c.contains.ensures.0 c.if-not-contains.false in
-    let typed = subst (λ (w : View). TypeFollows all v w) base ((c.requires.types _ _).0 (c.at-or-below.ensures.0 c.if-not-at-or-below.false)) in
-    let broken = fails c.restriction_follows.result c.restriction_follows.ensures c.if-not-restriction-follows.true in
-    inr (λ n. typed, inl (λ p. broken (subst (λ (w : View). RestrictionFollows all v w) (sym base) (p named)), ap Some c.of-two-then-not-restriction-follows.ensures))
+    let typed = subst (λ (w : View). TypeFollows all v w) base ((c.requires.types _ _).0 (c.at_or_below.ensures.0 c.if-not-at_or_below.false)) in
+    let broken = fails c.restriction_follows.result c.restriction_follows.ensures c.if-not-restriction_follows.true in
+    inr (λ n. typed, inl (λ p. broken (subst (λ (w : View). RestrictionFollows all v w) (sym base) (p named)), ap Some c.of_two-then-not-restriction_follows.ensures))
 
-pub returns-then-not-requirements-follow : goal.returns-then-not-requirements-follow
-returns-then-not-requirements-follow g c =
+pub returns-then-not-requirements_follow : goal.returns-then-not-requirements_follow
+returns-then-not-requirements_follow g c =
     let all = contents_of c.args.records.now in
     let v = c.args.view.now in
-    let base = c.view-of-base.ensures in
+    let base = c.view_of-base.ensures in
     let named = c.contains.ensures.0 c.if-not-contains.false in
-    let typed = subst (λ (w : View). TypeFollows all v w) base ((c.requires.types _ _).0 (c.at-or-below.ensures.0 c.if-not-at-or-below.false)) in
-    let restricted = subst (λ (w : View). RestrictionFollows all v w) base (c.restriction_follows.ensures.0 c.if-not-restriction-follows.false) in
-    let broken = fails c.requirements_follow.result c.requirements_follow.ensures c.if-not-requirements-follow.true in
-    inr (λ n. typed, inr (λ n. restricted, inl (λ p. broken (subst (λ (w : View). RequirementsFollow v w) (sym base) (p named)), ap Some c.of-two-then-not-requirements-follow.ensures)))
+    let typed = subst (λ (w : View). TypeFollows all v w) base ((c.requires.types _ _).0 (c.at_or_below.ensures.0 c.if-not-at_or_below.false)) in
+    let restricted = subst (λ (w : View). RestrictionFollows all v w) base (c.restriction_follows.ensures.0 c.if-not-restriction_follows.false) in
+    let broken = fails c.requirements_follow.result c.requirements_follow.ensures c.if-not-requirements_follow.true in
+    inr (λ n. typed, inr (λ n. restricted, inl (λ p. broken (subst (λ (w : View). RequirementsFollow v w) (sym base) (p named)), ap Some c.of_two-then-not-requirements_follow.ensures)))
 
-pub returns-then-not-rights-follow : goal.returns-then-not-rights-follow
-returns-then-not-rights-follow g c =
+pub returns-then-not-rights_follow : goal.returns-then-not-rights_follow
+returns-then-not-rights_follow g c =
     let all = contents_of c.args.records.now in
     let v = c.args.view.now in
-    let base = c.view-of-base.ensures in
+    let base = c.view_of-base.ensures in
     let named = c.contains.ensures.0 c.if-not-contains.false in
-    let typed = subst (λ (w : View). TypeFollows all v w) base ((c.requires.types _ _).0 (c.at-or-below.ensures.0 c.if-not-at-or-below.false)) in
-    let restricted = subst (λ (w : View). RestrictionFollows all v w) base (c.restriction_follows.ensures.0 c.if-not-restriction-follows.false) in
-    let required = subst (λ (w : View). RequirementsFollow v w) base (c.requirements_follow.ensures.0 c.if-not-requirements-follow.false) in
-    let broken = fails c.rights-follow.result c.rights-follow.ensures c.if-not-rights-follow.true in
-    inr (λ n. typed, inr (λ n. restricted, inr (λ n. required, inl (λ p. broken (subst (λ (w : View). RightsFollow v w) (sym base) (p named)), ap Some c.of-two-then-not-rights-follow.ensures))))
+    let typed = subst (λ (w : View). TypeFollows all v w) base ((c.requires.types _ _).0 (c.at_or_below.ensures.0 c.if-not-at_or_below.false)) in
+    let restricted = subst (λ (w : View). RestrictionFollows all v w) base (c.restriction_follows.ensures.0 c.if-not-restriction_follows.false) in
+    let required = subst (λ (w : View). RequirementsFollow v w) base (c.requirements_follow.ensures.0 c.if-not-requirements_follow.false) in
+    let broken = fails c.rights_follow.result c.rights_follow.ensures c.if-not-rights_follow.true in
+    inr (λ n. typed, inr (λ n. restricted, inr (λ n. required, inl (λ p. broken (subst (λ (w : View). RightsFollow v w) (sym base) (p named)), ap Some c.of_two-then-not-rights_follow.ensures))))
 
 pub returns : goal.returns
 returns g c =
     let all = contents_of c.args.records.now in
     let v = c.args.view.now in
-    let base = c.view-of-base.ensures in
-    let typed = subst (λ (w : View). TypeFollows all v w) base ((c.requires.types _ _).0 (c.at-or-below.ensures.0 c.if-not-at-or-below.false)) in
-    let restricted = subst (λ (w : View). RestrictionFollows all v w) base (c.restriction_follows.ensures.0 c.if-not-restriction-follows.false) in
-    let required = subst (λ (w : View). RequirementsFollow v w) base (c.requirements_follow.ensures.0 c.if-not-requirements-follow.false) in
-    let righted = subst (λ (w : View). RightsFollow v w) base (c.rights-follow.ensures.0 c.if-not-rights-follow.false) in
+    let base = c.view_of-base.ensures in
+    let typed = subst (λ (w : View). TypeFollows all v w) base ((c.requires.types _ _).0 (c.at_or_below.ensures.0 c.if-not-at_or_below.false)) in
+    let restricted = subst (λ (w : View). RestrictionFollows all v w) base (c.restriction_follows.ensures.0 c.if-not-restriction_follows.false) in
+    let required = subst (λ (w : View). RequirementsFollow v w) base (c.requirements_follow.ensures.0 c.if-not-requirements_follow.false) in
+    let righted = subst (λ (w : View). RightsFollow v w) base (c.rights_follow.ensures.0 c.if-not-rights_follow.false) in
     inr (λ n. typed, inr (λ n. restricted, inr (λ n. required, inr (λ n. righted, refl))))

@@ -16,7 +16,7 @@ pub loop-number-preserved : goal.loop-number-preserved
 loop-number-preserved g c =
     let all = contents_of c.args.records.now in
     let v = c.args.view.now in
-    below_more (λ i. Passes (of_base all v i)) c.loop-number.number c.loop-number.invariant (none_first (of_base all v c.loop-number.number) c.in-default.ensures)
+    below_more (λ i. Passes (of_base all v i)) c.loop-number.number c.loop-number.invariant (none_first (of_base all v c.loop-number.number) c.in_default.ensures)
 
 pub returns : goal.returns
 returns g c =

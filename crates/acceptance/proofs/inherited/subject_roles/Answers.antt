@@ -14,10 +14,10 @@ use Rattle.acceptance.proofs.Inheriting.{Upto, upto_none, upto_take, upto_pass, 
 use Rattle.acceptance.proofs.inherited.subject_roles.Goals as goal
 use Rattle.acceptance.proofs.inherited.subject_roles.Goals.{then-contains, else-contains}
 
-pub returns-in-default : goal.returns-in-default
-returns-in-default g c m k =
+pub returns-in_default : goal.returns-in_default
+returns-in_default g c m k =
     let all = contents_of c.args.records.now in
-    let past = ap (λ s. s.groups) (get_or_past all.subjects c.args.number _ c.in-default.ensures) in (
+    let past = ap (λ s. s.groups) (get_or_past all.subjects c.args.number _ c.in_default.ensures) in (
       λ h. absurd (c.empty-roles.ensures.members k h),
       λ h. absurd (∥∥₁_elim h ⊥_prop (λ s. not_in_none s.0 (subst (In s.0) past s.1.0))),
     )

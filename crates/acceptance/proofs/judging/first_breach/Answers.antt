@@ -6,20 +6,20 @@ use Rattle.acceptance.proofs.Firsts.{none_first, first_before, first_behind}
 use Rattle.acceptance.proofs.Inheriting.{falling, few_taken}
 use Rattle.acceptance.proofs.judging.first_breach.Goals as goal
 
-pub falling-order-types-requires : goal.falling-order-types-requires
-falling-order-types-requires g c =
+pub falling_order-types-requires : goal.falling_order-types-requires
+falling_order-types-requires g c =
     let t = c.args.records.now.types in
-    subst (λ xs. Falling (map (λ r. r.supertypes) xs)) (sym c.as-slice.ensures) (falling (λ r. r.supertypes) _ refl _ (few_taken t.len t.items t.within) c.requires.supertypes)
+    subst (λ xs. Falling (map (λ r. r.supertypes) xs)) (sym c.as_slice.ensures) (falling (λ r. r.supertypes) _ refl _ (few_taken t.len t.items t.within) c.requires.supertypes)
 
-pub falling-order-roles-requires : goal.falling-order-roles-requires
-falling-order-roles-requires g c =
+pub falling_order-roles-requires : goal.falling_order-roles-requires
+falling_order-roles-requires g c =
     let t = c.args.records.now.roles in
-    subst (λ xs. Falling (map (λ r. r.superroles) xs)) (sym c.as-slice-2.ensures) (falling (λ r. r.superroles) _ refl _ (few_taken t.len t.items t.within) c.requires.superroles)
+    subst (λ xs. Falling (map (λ r. r.superroles) xs)) (sym c.as_slice-2.ensures) (falling (λ r. r.superroles) _ refl _ (few_taken t.len t.items t.within) c.requires.superroles)
 
-pub falling-order-views-requires : goal.falling-order-views-requires
-falling-order-views-requires g c =
+pub falling_order-views-requires : goal.falling_order-views-requires
+falling_order-views-requires g c =
     let t = c.args.records.now.views in
-    subst (λ xs. Falling (map (λ r. r.bases) xs)) (sym c.as-slice-3.ensures) (falling (λ r. r.bases) _ refl _ (few_taken t.len t.items t.within) c.requires.bases)
+    subst (λ xs. Falling (map (λ r. r.bases) xs)) (sym c.as_slice-3.ensures) (falling (λ r. r.bases) _ refl _ (few_taken t.len t.items t.within) c.requires.bases)
 
 pub returns-in-Some : goal.returns-in-Some
 returns-in-Some g c =
@@ -31,4 +31,4 @@ pub returns : goal.returns
 returns g c =
     let all = contents_of c.args.records.now in
     let n = length all.views in
-    first_behind (up_to n (of_view_and_bases all)) (up_to n (λ i. up_to n (of_pair all i))) c.pairs-breach.result (none_first (up_to n (of_view_and_bases all)) c.in-default.ensures) c.pairs-breach.ensures
+    first_behind (up_to n (of_view_and_bases all)) (up_to n (λ i. up_to n (of_pair all i))) c.pairs_breach.result (none_first (up_to n (of_view_and_bases all)) c.in_default.ensures) c.pairs_breach.ensures

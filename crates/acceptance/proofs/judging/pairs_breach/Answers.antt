@@ -6,8 +6,8 @@ use Rattle.book.specs.Contents.{contents_of}
 use Rattle.acceptance.proofs.Clashing.{pairs_pass, pairs_fail}
 use Rattle.acceptance.proofs.judging.pairs_breach.Goals as goal
 
-pub returns-in-default : goal.returns-in-default
-returns-in-default g c = pairs_pass (contents_of c.args.records.now) c.in-default.ensures
+pub returns-in_default : goal.returns-in_default
+returns-in_default g c = pairs_pass (contents_of c.args.records.now) c.in_default.ensures
 
 pub returns : goal.returns
-returns g c = pairs_fail (contents_of c.args.records.now) c.in-Some.first c.in-Some.second c.of-two.result (c.of-two.ensures ∙ ap (λ (v : View). breach Clashing v (Some c.in-Some.second)) c.view-of-view.ensures) c.in-Some.ensures
+returns g c = pairs_fail (contents_of c.args.records.now) c.in-Some.first c.in-Some.second c.of_two.result (c.of_two.ensures ∙ ap (λ (v : View). breach Clashing v (Some c.in-Some.second)) c.view_of-view.ensures) c.in-Some.ensures

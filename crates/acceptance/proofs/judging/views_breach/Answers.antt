@@ -15,7 +15,7 @@ returns-in-Some g c =
 pub loop-number-preserved : goal.loop-number-preserved
 loop-number-preserved g c =
     let all = contents_of c.args.records.now in
-    below_more (λ i. Passes (of_view_and_bases all i)) c.loop-number.number c.loop-number.invariant (none_first (of_view_and_bases all c.loop-number.number) c.in-default.ensures)
+    below_more (λ i. Passes (of_view_and_bases all i)) c.loop-number.number c.loop-number.invariant (none_first (of_view_and_bases all c.loop-number.number) c.in_default.ensures)
 
 pub returns : goal.returns
 returns g c =

@@ -20,7 +20,7 @@ loop-part-init c =
     let r = c.new-reader.result in (
       c.new-reader.ensures.0,
       going_there book (reading book) (front book) r.position nothing (contents_of c.empty-records.result) (sym c.new-reader.ensures.1) (sym c.empty-records.ensures)
-          (begins book c.in-default.ensures.0),
+          (begins book c.in_default.ensures.0),
     )
 
 pub returns-in-Err : goal.returns-in-Err
@@ -29,25 +29,25 @@ returns-in-Err c =
     let read = ap (λ o. filing nothing (after_opening o book)) c.in-Err.ensures in
     record {
       records = read;
-      exactly = exactly book c.type-inv.book _ read;
+      exactly = exactly book c.type_inv.book _ read;
       declared = tt;
       encoded = passes_as_encoded;
       parts = parts_are_the_book;
     }
 
-pub returns-in-err-part : goal.returns-in-err-part
-returns-in-err-part c =
+pub returns-in_err-part : goal.returns-in_err-part
+returns-in_err-part c =
     let book = c.args.book.now in
     let r = c.loop-part.reader in
-    let f = c.in-err-part.field-0.0 in
-    let h = subst (λ book. Hands book r.position (Err f) c.next.new.self.position) c.loop-part.invariant.0 c.in-err-part.ensures.handed in
-    let e = err_from_is_err_and c.from-residual.result c.from-residual.ensures.1 in
+    let f = c.in_err-part.field-0.0 in
+    let h = subst (λ book. Hands book r.position (Err f) c.next.new.self.position) c.loop-part.invariant.0 c.in_err-part.ensures.handed in
+    let e = err_from_is_err_and c.from_residual.result c.from_residual.ensures.1 in
     let broke = breaks book r.position (contents_of c.loop-part.records) (reading book) c.loop-part.invariant.1 f (h.0, h.1, h.2, refl) in
     record {
       records = subst (λ r. MatchResult r (λ t. reading book ≡ Ok (contents_of t)) (λ f. reading book ≡ Err f)) (sym e.1) (broke ∙ ap Err (sym e.2));
       exactly =
           subst (λ r. MatchResult r (λ t. Exactly book (Ok (contents_of t))) (λ f. Exactly book (Err f))) (sym e.1)
-          (subst (λ f. Exactly book (Err f)) (sym e.2) (exactly book c.type-inv.book (Err f) broke));
+          (subst (λ f. Exactly book (Err f)) (sym e.2) (exactly book c.type_inv.book (Err f) broke));
       declared = subst (λ r. IfOk r (λ t. Declares (contents_of t))) (sym e.1) tt;
       encoded = passes_as_encoded;
       parts = parts_are_the_book;
@@ -62,14 +62,14 @@ handed c =
     let r = c.loop-part.reader in
     let t = c.next.new.self.position in
     subst (λ book. Hands book r.position (Ok (Some c.in-Some.part)) t) c.loop-part.invariant.0
-    (subst (λ o. Hands r.book.now r.position (Ok o) t) c.in-Some.is c.in-ok-part.ensures.handed)
+    (subst (λ o. Hands r.book.now r.position (Ok o) t) c.in-Some.is c.in_ok-part.ensures.handed)
 
-pub made-of-requires : goal.made-of-requires
-made-of-requires c =
+pub made_of-requires : goal.made_of-requires
+made_of-requires c =
     let book = c.args.book.now in
     let part = c.in-Some.part in
     part_whole book c.loop-part.reader.position (contents_of c.loop-part.records) (reading book) c.loop-part.invariant.1 part.phase part.place part.bytes.now
-    (handed (goal.at.made-of-requires c).In-Some).0
+    (handed (goal.at.made_of-requires c).In-Some).0
 
 pub file-requires : goal.file-requires
 file-requires c =
@@ -97,16 +97,16 @@ loop-part-preserved c =
           (goes_on book s all (reading book) c.loop-part.invariant.1 part.phase part.place part.bytes.now h.0 told.0),
     )
 
-pub returns-in-Err-made-of : goal.returns-in-Err-made-of
-returns-in-Err-made-of c =
+pub returns-in-Err-made_of : goal.returns-in-Err-made_of
+returns-in-Err-made_of c =
     let book = c.args.book.now in
     let part = c.in-Some.part in
     let read =
     fails book c.loop-part.reader.position (contents_of c.loop-part.records) (reading book) c.loop-part.invariant.1 part.phase part.place part.bytes.now
-    (handed (goal.at.returns-in-Err-made-of c).In-Some).0 c.in-Err-made-of.refusal c.in-Err-made-of.ensures in
+    (handed (goal.at.returns-in-Err-made_of c).In-Some).0 c.in-Err-made_of.refusal c.in-Err-made_of.ensures in
     record {
       records = read;
-      exactly = exactly book c.type-inv.book _ read;
+      exactly = exactly book c.type_inv.book _ read;
       declared = tt;
       encoded = passes_as_encoded;
       parts = parts_are_the_book;
@@ -117,13 +117,13 @@ returns c =
     let book = c.args.book.now in
     let r = c.loop-part.reader in
     let t = c.next.new.self.position in
-    let end = (subst (λ o. Hands r.book.now r.position (Ok o) t) c.in-default-2.is c.in-ok-part.ensures.handed).0 in
+    let end = (subst (λ o. Hands r.book.now r.position (Ok o) t) c.in_default-2.is c.in_ok-part.ensures.handed).0 in
     let same = ap length c.loop-part.invariant.0 in
     let all = contents_of c.loop-part.records in
     let read : reading book ≡ Ok all = ends book r.position all (reading book) c.loop-part.invariant.1 (omega arith) in
     record {
       records = read;
-      exactly = exactly book c.type-inv.book (Ok all) read;
+      exactly = exactly book c.type_inv.book (Ok all) read;
       declared = declares book all read;
       encoded = passes_as_encoded;
       parts = parts_are_the_book;

@@ -27,9 +27,9 @@ loop-lower-preserved c =
     elim c.if-contains.branch [
       | then-contains w ↦
           let told = λ (k : ℕ). c.requires.1 b k c.loop-lower-test.true in
-          let e = w.from-bits.ensures in
+          let e = w.from_bits.ensures in
           subst (Part links n (b + 1)) (sym w.row-is)
-          (part_take links n b row w.union-row.result w.from-bits.result c.loop-lower.invariant
+          (part_take links n b row w.union-row.result w.from_bits.result c.loop-lower.invariant
           (subst (In b) c.above-above.ensures (c.contains.ensures.0 w.if-contains.true))
           (λ k. (λ h. (told k).0 (subst (Bit k) e h), λ h. subst (Bit k) (sym e) ((told k).1 h)))
           w.union-row.ensures)

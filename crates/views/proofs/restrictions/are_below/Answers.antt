@@ -5,7 +5,7 @@ use Rattle.sets.specs.Members.{In}
 use Rattle.views.specs.Some.{Exists}
 use Rattle.views.proofs.Tested.{fails}
 use Rattle.views.proofs.restrictions.are_below.Goals as goal
-use Rattle.views.proofs.restrictions.are_below.Goals.{else-contains-via-then-contains+else-not-is-below-some, else-contains-via-else-contains}
+use Rattle.views.proofs.restrictions.are_below.Goals.{else-contains-via-then-contains+else-not-is_below_some, else-contains-via-else-contains}
 
 pub returns : goal.returns
 returns g c = (
@@ -20,7 +20,7 @@ loop-number-preserved g c =
     let P : ℕ → Type 0 = λ k. In k set → Exists (λ s. In s c.args.other × g.H.Hierarchy.pairs c.args.order.now k s) in
     let here : P n =
     elim c.else-contains.branch [
-      | else-contains-via-then-contains+else-not-is-below-some w ↦ λ h. w.is-below-some.ensures.0 w.if-not-is-below-some.false
+      | else-contains-via-then-contains+else-not-is_below_some w ↦ λ h. w.is_below_some.ensures.0 w.if-not-is_below_some.false
       | else-contains-via-else-contains w ↦ λ h. absurd (fails c.contains.result c.contains.ensures w.if-contains.false h)
     ] in
     below_more P n c.loop-number.invariant here

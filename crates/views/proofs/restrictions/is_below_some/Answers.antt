@@ -5,8 +5,8 @@ use Rattle.std.proofs.lemmas.Bool.{both_ways, cases_lt}
 use Rattle.sets.proofs.Membership.{none_from}
 use Rattle.views.proofs.restrictions.is_below_some.Goals as goal
 
-pub returns-then-at-or-below : goal.returns-then-at-or-below
-returns-then-at-or-below g c = (λ e. ∣ (c.loop-above.above, (c.contains.ensures.0 c.if-contains.true, c.at-or-below.ensures.0 c.if-at-or-below.true)) ∣₁, λ e. refl)
+pub returns-then-at_or_below : goal.returns-then-at_or_below
+returns-then-at_or_below g c = (λ e. ∣ (c.loop-above.above, (c.contains.ensures.0 c.if-contains.true, c.at_or_below.ensures.0 c.if-at_or_below.true)) ∣₁, λ e. refl)
 
 pub returns : goal.returns
 returns g c = (

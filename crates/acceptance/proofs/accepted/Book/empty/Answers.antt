@@ -3,5 +3,5 @@ use Rattle.acceptance.specs.Rules.{Accepted}
 use Rattle.acceptance.proofs.Accepting.{nothing_accepted}
 use Rattle.acceptance.proofs.accepted.Book.empty.Goals as goal
 
-pub invariant-of-result : goal.invariant-of-result
-invariant-of-result c = (subst (λ a. ∥ Accepted a ∥₁) (sym c.empty.ensures) ∣ nothing_accepted ∣₁, tt)
+pub invariant_of-result : goal.invariant_of-result
+invariant_of-result c = record { accepted = subst (λ a. ∥ Accepted a ∥₁) (sym c.empty.ensures) ∣ nothing_accepted ∣₁ }

@@ -8,7 +8,7 @@ use Rattle.acceptance.proofs.accepted.Book.judge.Goals as goal
 
 pub returns-in-Err : goal.returns-in-Err
 returns-in-Err g c = record {
-  judged = inl (c.in-Err.fault, c.in-Err.ensures.records, c.of-form.ensures);
+  judged = inl (c.in-Err.fault, c.in-Err.ensures.records, c.of_form.ensures);
   kept = tt;
   single = one_judgement;
   rules = accepted_by_rules;
@@ -22,19 +22,19 @@ returns-in-Some g c = record {
   rules = accepted_by_rules;
 }
 
-pub invariant-of-result : goal.invariant-of-result
-invariant-of-result g c =
+pub invariant_of-result : goal.invariant_of-result
+invariant_of-result g c =
     let all = contents_of c.in-Ok.records in
     let declared = c.in-Ok.ensures.declared in
-    (∣ (declared, passes_rules all declared (none_first (checks all) c.in-default.ensures)) ∣₁, tt)
+    record { accepted = ∣ (declared, passes_rules all declared (none_first (checks all) c.in_default.ensures)) ∣₁ }
 
 pub returns : goal.returns
 returns g c =
     let all = contents_of c.in-Ok.records in
     let declared = c.in-Ok.ensures.declared in
     record {
-      judged = (c.in-Ok.ensures.records, c.in-default.ensures);
-      kept = kept all declared (passes_rules all declared (none_first (checks all) c.in-default.ensures));
+      judged = (c.in-Ok.ensures.records, c.in_default.ensures);
+      kept = kept all declared (passes_rules all declared (none_first (checks all) c.in_default.ensures));
       single = one_judgement;
       rules = accepted_by_rules;
     }

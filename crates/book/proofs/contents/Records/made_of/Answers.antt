@@ -11,5 +11,5 @@ returns c =
     let p = c.args.part.phase in
     let part = c.args.part.bytes.now in
     let m = get_or part 1 0 in
-    subst (λ bs. Told c.from-fields.result (first_wrong (contents_of c.args.self.now) (layout p) m bs) (record_from p c.args.part.place (pieces (layout p) m bs))) (take_rest part 2)
-    c.from-fields.ensures
+    subst (λ bs. Told c.from_fields.result (first_wrong (contents_of c.args.self.now) (layout p) m bs) (record_from p c.args.part.place (pieces (layout p) m bs))) (take_rest part 2)
+    c.from_fields.ensures

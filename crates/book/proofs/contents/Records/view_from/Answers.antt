@@ -5,8 +5,8 @@ use Rattle.book.proofs.Taken.{length_left}
 use Rattle.book.proofs.contents.Records.view_from.Goals as goal
 
 -- three fields were taken, and the others are still there
-pub terms-from-requires : goal.terms-from-requires
-terms-from-requires c =
+pub terms_from-requires : goal.terms_from-requires
+terms_from-requires c =
     let f = c.args.fields in
     let a = c.controlled.new.self in
     let b = c.numbers.new.self in

@@ -7,7 +7,7 @@ use Rattle.sets.specs.Bytes.{set_of}
 use Rattle.book.specs.declared.refusal.Refusal.TheVariants.{Empty}
 use Rattle.book.specs.Form.{marked, piece, behind, wrong_next, wrong_denials}
 use Rattle.book.proofs.fields.Fields.denials.Goals as goal
-use Rattle.book.proofs.fields.Fields.denials.Goals.{else-is-empty-via-then-is-empty+else-is-empty-2, else-is-empty-via-else-is-empty}
+use Rattle.book.proofs.fields.Fields.denials.Goals.{else-is_empty-via-then-is_empty+else-is_empty-2, else-is_empty-via-else-is_empty}
 
 -- the two halves of sixteen bytes
 module _ (m : ℕ) (bs : List ℕ) (t : marked m ≡ true) where
@@ -36,10 +36,10 @@ returns c =
     let w : c.eight-weak.result ≡ set_of (take 8 bs) = c.eight-weak.ensures.value ∙ ap (λ b. set_of (take 8 b)) first in
     let s : c.eight-strong.result ≡ set_of (take 8 (drop 8 bs)) = c.eight-strong.ensures.value ∙ ap (λ b. set_of (take 8 b)) second in
     let some : (is_empty (set_of (take 8 bs)) && is_empty (set_of (take 8 (drop 8 bs)))) ≡ false =
-    elim c.else-is-empty.branch [
-      | else-is-empty-via-then-is-empty+else-is-empty-2 v ↦
-          and_right _ _ (ap is_empty (sym s) ∙ sym v.is-empty-then-is-empty.ensures.value ∙ v.if-is-empty-2.false)
-      | else-is-empty-via-else-is-empty v ↦ and_left _ _ (ap is_empty (sym w) ∙ sym c.is-empty.ensures.value ∙ v.if-is-empty.false)
+    elim c.else-is_empty.branch [
+      | else-is_empty-via-then-is_empty+else-is_empty-2 v ↦
+          and_right _ _ (ap is_empty (sym s) ∙ sym v.is_empty-then-is_empty.ensures.value ∙ v.if-is_empty-2.false)
+      | else-is_empty-via-else-is_empty v ↦ and_left _ _ (ap is_empty (sym w) ∙ sym c.is_empty.ensures.value ∙ v.if-is_empty.false)
     ] in
     record {
       moved = (

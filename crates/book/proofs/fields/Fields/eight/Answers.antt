@@ -19,4 +19,4 @@ first_eight (a ∷ b ∷ c ∷ d ∷ e ∷ f ∷ g ∷ h ∷ bs) l = refl
 pub returns : goal.returns
 returns c =
     let bs = c.args.self.now.rest.now in
-    record { value = c.from-bytes.ensures.value ∙ ap set_of (first_eight bs c.requires); map = refl; rest = take_rest bs 8 }
+    record { value = c.from_bytes.ensures.value ∙ ap set_of (first_eight bs c.requires); map = refl; rest = take_rest bs 8 }

@@ -4,18 +4,18 @@ use Rattle.book.specs.Form.{broken}
 use Rattle.book.proofs.Handing.{some_left, cut_left, inside, part_length, handed}
 use Rattle.book.proofs.reader.Reader.next.Goals as goal
 
-pub overflow-add-self : goal.overflow-add-self
-overflow-add-self c =
+pub overflow_add-self : goal.overflow_add-self
+overflow_add-self c =
     let s = c.args.self.now in
     let at = s.position.at in
     let e : at + c.in-Ok.size ≤ length s.book.now =
     inside s.book.now at s.within s.position.phase s.position.number c.in-Ok.phase c.in-Ok.size c.in-Ok.ensures.0 in
     search rules
 
-pub invariant-of-self : goal.invariant-of-self
-invariant-of-self c =
+pub invariant_of-self : goal.invariant_of-self
+invariant_of-self c =
     let s = c.args.self.now in
-    (inside s.book.now s.position.at s.within s.position.phase s.position.number c.in-Ok.phase c.in-Ok.size c.in-Ok.ensures.0, tt)
+    record { within = inside s.book.now s.position.at s.within s.position.phase s.position.number c.in-Ok.phase c.in-Ok.size c.in-Ok.ensures.0 }
 
 pub returns-in-Err : goal.returns-in-Err
 returns-in-Err c =
@@ -24,7 +24,7 @@ returns-in-Err c =
     record {
       book = refl;
       handed = (
-        some_left s.book.now at s.within (sym c.is-empty.ensures ∙ c.if-is-empty.false),
+        some_left s.book.now at s.within (sym c.is_empty.ensures ∙ c.if-is_empty.false),
         cut_left s.book.now at s.within s.position.phase s.position.number (broken c.in-Err.refusal) c.in-Err.ensures,
         refl,
         refl,

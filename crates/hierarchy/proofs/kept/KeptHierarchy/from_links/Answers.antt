@@ -4,8 +4,8 @@ use Rattle.hierarchy.specs.LinkingLemmas.{falling}
 use Rattle.hierarchy.proofs.Parts.{rows_below, rows_refl, rows_le, rows_trans}
 use Rattle.hierarchy.proofs.kept.KeptHierarchy.from_links.Goals as goal
 
-pub invariant-of-result : goal.invariant-of-result
-invariant-of-result c =
+pub invariant_of-result : goal.invariant_of-result
+invariant_of-result c =
     let l = c.args.links.now in
     let of = c.build-rows.result.of in
     let n = c.len.result in
@@ -13,7 +13,13 @@ invariant-of-result c =
     let w = f.0 in
     let e = c.len.ensures in
     let t = c.build-rows.ensures.told in
-    (c.build-rows.ensures.sized, (omega arith, (rows_refl (linked l) of n f e t, (rows_le (linked l) of n f e t, (∣ rows_trans (linked l) of n f e t ∣₁, tt)))))
+    record {
+      sized = c.build-rows.ensures.sized;
+      few = omega arith;
+      own = rows_refl (linked l) of n f e t;
+      falls = rows_le (linked l) of n f e t;
+      joins = ∣ rows_trans (linked l) of n f e t ∣₁;
+    }
 
 pub returns : goal.returns
 returns c =

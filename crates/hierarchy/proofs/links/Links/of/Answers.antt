@@ -11,18 +11,18 @@ returns-then-len-gt64 g c =
     let e = length-map c.args.records.now g.R.Linked.above in
     record { links = λ f. let l = f.0 in let p = c.if-len-gt64.true in omega arith; least = least_order }
 
-pub returns-then-not-is-below : goal.returns-then-not-is-below
-returns-then-not-is-below g c =
+pub returns-then-not-is_below : goal.returns-then-not-is_below
+returns-then-not-is_below g c =
     let i = c.loop-i.i in
     let at = read_at g.R.Linked.above c.args.records.now i c.index-records-i.result c.above-above.result c.loop-i-test.true c.index-records-i.is c.above-above.ensures in
-    record { links = λ f. both_ways c.is-below.result c.if-not-is-below.true (c.is-below.ensures.members.1 (λ b h. f.1 i b (subst (In b) at h))); least = least_order }
+    record { links = λ f. both_ways c.is_below.result c.if-not-is_below.true (c.is_below.ensures.members.1 (λ b h. f.1 i b (subst (In b) at h))); least = least_order }
 
 pub loop-i-preserved : goal.loop-i-preserved
 loop-i-preserved g c =
     let rs = c.args.records.now in
     let i = c.loop-i.i in
     let at = read_at g.R.Linked.above rs i c.index-records-i.result c.above-above.result c.loop-i-test.true c.index-records-i.is c.above-above.ensures in
-    filled_more (map g.R.Linked.above rs) c.loop-i.rows i c.above-above.result (omega arith) c.loop-i.invariant at (c.is-below.ensures.members.0 c.if-not-is-below.false)
+    filled_more (map g.R.Linked.above rs) c.loop-i.rows i c.above-above.result (omega arith) c.loop-i.invariant at (c.is_below.ensures.members.0 c.if-not-is_below.false)
 
 pub returns : goal.returns
 returns g c =
