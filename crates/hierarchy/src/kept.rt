@@ -2,11 +2,7 @@
 ghost use Rattle.std.specs.Prelude.{◌≡◌, ℕ, ◌≤◌, length};
 ghost use Rattle.hierarchy.specs.Order.{Reflexive, Transitive};
 ghost use Rattle.hierarchy.specs.Rows.{InRows};
-ghost use Rattle.std.proofs.Common.{arith};
-ghost use Rattle.std.proofs.Math.Logic.{∥∥₁_elim};
-ghost use mathlib.Core.HLevel.{×_prop};
-ghost use Rattle.std.proofs.Math.Bridge.{le_prop};
-ghost use Rattle.std.proofs.Math.Nat.{ℕ_set};
+ghost use Rattle.hierarchy.specs.RowLaws.{rows_antisym, rows_join, rows_within};
 
 use crate::links::Links;
 use crate::order::Hierarchy;
@@ -32,11 +28,11 @@ impl Hierarchy for Kept {
 
     ghost reflexive = { λ s. s.own };
 
-    ghost antisymmetric = { λ s a b p q. let x = s.falls a b p in let y = s.falls b a q in omega arith };
+    ghost antisymmetric = { λ s. rows_antisym s.rows.of s.len s.falls };
 
-    ghost transitive = { λ s a b c p q. ∥∥₁_elim s.joins (×_prop le_prop (ℕ_set _ _)) (λ j. j a b c p q) };
+    ghost transitive = { λ s. rows_join s.rows.of s.len s.joins };
 
-    ghost within = { λ s a b p. let l = p.0 in let x = s.falls a b p in (l, omega arith) };
+    ghost within = { λ s. rows_within s.rows.of s.len s.falls };
 
     fn from_links(links: &Links) -> Kept {
         let rows = build(links);

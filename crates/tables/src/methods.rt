@@ -17,7 +17,8 @@ impl<T: Copy, const N: usize> Table<T, N> {
 
     /// Adds an item behind those that are there, and says whether there was room for it.
     pub fn push(&mut self, item: T) -> bool
-        ensures { Pushes N self.old item result self.new }
+        ensures told { Pushes N self.old item result self.new }
+        ensures appended { length (listed self.old) < N → listed self.new ≡ listed self.old ++ (item ∷ []) }
     {
         let at = self.len;
         if at >= N {
