@@ -1,6 +1,5 @@
 -- The book of no record is accepted.
 use Rattle.std.proofs.Common.{arith}
-use Rattle.sets.proofs.Membership.{not_in_none}
 use Rattle.book.specs.Contents.{nothing}
 use Rattle.book.proofs.Declaring.{nothing_declares}
 use Rattle.acceptance.specs.Rules.{Rules, Accepted}

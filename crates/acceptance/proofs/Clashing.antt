@@ -4,7 +4,7 @@ use mathlib.Core.Logic.{∥∥₁_elim}
 use mathlib.Core.HLevel.{⊥_prop}
 use native.Mathlib.Bridge.{le_prop}
 use Rattle.std.proofs.lemmas.List.{length-map}
-use Rattle.std.proofs.lemmas.Bool.{cases_eq, cases_lt}
+use Rattle.std.proofs.lemmas.Bool.{cases_eq}
 use Rattle.sets.specs.declared.NumberSet.{NumberSet}
 use Rattle.hierarchy.specs.Order.{Below}
 use Rattle.hierarchy.specs.Paths.{steps_from}
@@ -14,7 +14,7 @@ use Rattle.acceptance.specs.Orders.{type_links}
 use Rattle.acceptance.specs.declared.rejection.Rule.TheVariants.{Clashing}
 use Rattle.acceptance.specs.declared.rejection.Rejection.{Rejection}
 use Rattle.acceptance.specs.Rejections.{breach}
-use Rattle.acceptance.specs.Rules.{Rivals, Shared, Clash}
+use Rattle.acceptance.specs.Rules.{Shared, Clash}
 use Rattle.acceptance.specs.Checks.{First, up_to, of_pair, FirstClash}
 use Rattle.acceptance.proofs.Firsts.{first_none, passes_each, first_each}
 

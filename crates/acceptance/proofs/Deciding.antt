@@ -1,5 +1,5 @@
 -- Checks that pass and rules that hold are the same, and a book has one judgement.
-use Rattle.std.proofs.Common.{◌≡◌, ℕ, ◌<◌, ◌≤◌, ◌⊎◌, List, length, Some, None, Ok, Err, Option, Result, sym, refl, ap, ◌∙◌, subst, inl, inr, arith}
+use Rattle.std.proofs.Common.{◌≡◌, ℕ, ◌<◌, List, length, Some, None, Ok, Err, Option, Result, sym, ap, ◌∙◌, subst, inl, inr, arith}
 use Rattle.sets.specs.Members.{In}
 use Rattle.book.specs.declared.refusal.Fault.{Fault}
 use Rattle.book.specs.Contents.{Contents}

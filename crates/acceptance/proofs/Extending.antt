@@ -1,5 +1,5 @@
 -- What the rules give along the whole view order, and what is inherited along the others.
-use Rattle.std.proofs.Common.{◌≡◌, ℕ, ◌<◌, ◌≤◌, ◌⊎◌, length, sym, refl, ap, ◌∙◌, subst, inl, inr, ⊎_elim, arith}
+use Rattle.std.proofs.Common.{ℕ, ◌<◌, length, sym, refl, subst, inl, inr, ⊎_elim, arith}
 use mathlib.Core.Logic.{∥∥₁_elim, ∥∥₁_map, ∥∥₁_prop}
 use mathlib.Core.HLevel.{⊥_prop, Π_prop, →_prop, ×_prop}
 use native.Mathlib.Nat.{ℕ_set}
@@ -15,7 +15,7 @@ use Rattle.book.specs.Declarations.{no_view, view_at, Declares}
 use Rattle.views.specs.Some.{Exists}
 use Rattle.acceptance.specs.Orders.{type_links, role_links, group_links, view_links, OperationOf, RoleOf, MemberOf, SubjectRole}
 use Rattle.views.specs.Rights.{Right, weak_permission, strong_permission, weak_denial, strong_denial, Has, Denies, Strong, Becomes}
-use Rattle.views.specs.ViewRules.{Static, OneRight, Restricted, RequirementsFollow, RightsKept, NewPermitted, AssignableDeniesNothing, VirtualHasNone}
+use Rattle.views.specs.ViewRules.{OneRight, RequirementsFollow, RightsKept, NewPermitted, AssignableDeniesNothing, VirtualHasNone}
 use Rattle.acceptance.specs.Rules.{TypeFollows, RestrictionFollows, Rules}
 use Rattle.acceptance.specs.Laws.{Extension, Kept}
 use Rattle.acceptance.proofs.Inheriting.{set_at}

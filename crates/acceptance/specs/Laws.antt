@@ -1,13 +1,13 @@
 -- What holds of every accepted book.
-use Rattle.std.specs.Prelude.{◌≡◌, ℕ, ◌<◌, length}
-use Rattle.sets.specs.Members.{In, Iff}
+use Rattle.std.specs.Prelude.{ℕ, ◌<◌, length}
+use Rattle.sets.specs.Members.{Iff}
 use Rattle.hierarchy.specs.Order.{Below}
 use Rattle.records.specs.declared.View.{View}
 use Rattle.book.specs.Contents.{Contents}
 use Rattle.book.specs.Declarations.{view_at}
 use Rattle.views.specs.Some.{Exists}
 use Rattle.acceptance.specs.Orders.{view_links, group_links, type_links, OperationOf, RoleOf, MemberOf, SubjectRole}
-use Rattle.views.specs.Rights.{Right, strong_permission, strong_denial, Has, Denies, Strong}
+use Rattle.views.specs.Rights.{Right, strong_permission, strong_denial, Has, Strong}
 use Rattle.views.specs.ViewRules.{RequirementsFollow, RightsKept, NewPermitted, OneRight, AssignableDeniesNothing, VirtualHasNone}
 use Rattle.acceptance.specs.Rules.{TypeFollows, RestrictionFollows, OwnOperations}
 

@@ -1,6 +1,6 @@
 -- The rules of acceptance, each as a proposition over the records.
-use Rattle.std.specs.Prelude.{◌≡◌, ℕ, ◌<◌, ◌⊎◌, length}
-use Rattle.sets.specs.Members.{In, Bit}
+use Rattle.std.specs.Prelude.{ℕ, ◌<◌, length}
+use Rattle.sets.specs.Members.{In}
 use Rattle.hierarchy.specs.Order.{Below}
 use Rattle.records.specs.declared.View.{View}
 use Rattle.book.specs.Contents.{Contents}
@@ -8,7 +8,7 @@ use Rattle.book.specs.Declarations.{view_at, Declares}
 use Rattle.views.specs.Some.{Exists}
 use Rattle.views.specs.ViewRules.{OneRight, AssignableDeniesNothing, VirtualHasNone, Restricted, RequirementsFollow, RightsFollow, Opposed}
 use Rattle.acceptance.specs.Orders.{type_links, role_links, view_links, OperationOf}
-use Rattle.views.specs.Rights.{Right, strong_permission, strong_denial, Has, Denies, Becomes}
+use Rattle.views.specs.Rights.{Right, Has}
 
 -- ---- of a view by itself
 

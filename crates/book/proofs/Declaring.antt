@@ -1,5 +1,5 @@
 -- The records of a book that was read name only what is declared.
-use Rattle.std.proofs.Common.{◌≡◌, ℕ, zero, suc, ◌+◌, ◌/◌, ◌^◌, ◌<◌, ◌≤◌, Bool, true, false, cond, not, ◌||◌, eqb, ltb, ◌⊎◌, List, [], ◌∷◌, ◌++◌, length, get_or, take, drop, Some, None, Ok, Err, Option, Result, sym, refl, ap, ◌∙◌, subst, inl, inr, ⊎_elim, arith}
+use Rattle.std.proofs.Common.{◌≡◌, ℕ, zero, suc, ◌/◌, ◌<◌, Bool, true, false, cond, not, ◌||◌, eqb, ltb, List, [], ◌∷◌, ◌++◌, length, get_or, take, drop, Some, None, Ok, Err, Option, Result, sym, refl, subst, ⊎_elim, arith}
 use Rattle.std.proofs.lemmas.List.{get_or_append_left, get_or_push, get_or_past, length-append, length-drop}
 use Rattle.std.proofs.lemmas.Bool.{cases_lt, cases_order, ltb-true}
 use Rattle.sets.specs.declared.NumberSet.{NumberSet}
@@ -10,11 +10,10 @@ use Rattle.sets.proofs.Membership.{not_in_none, none_from}
 use Rattle.book.specs.declared.phase.Phase.{Phase}
 use Rattle.book.specs.declared.phase.Phase.TheVariants.{Types, Roles, Groups, Views, Subjects}
 use Rattle.book.specs.declared.refusal.Refusal.{Refusal}
-use Rattle.book.specs.declared.refusal.Refusal.TheVariants.{Size, Version}
 use Rattle.book.specs.declared.refusal.Fault.{Fault}
 use Rattle.book.specs.Layout.{Field, names, operations, controlled, modifiers, width, layout, terms_fields, rights_fields}
 use Rattle.book.specs.Contents.{Record, AType, ARole, AGroup, AView, ASubject, Contents, nothing, count, filed, filed_all}
-use Rattle.book.specs.Form.{marked, span, piece, pieces, behind, wrong, wrong_next, wrong_names, wrong_controlled, or_else, first_wrong, Cut, whole, broken, cut, record_from, State, start, advanced, after_fields, after_cut, records_in, after_opening, form, filing, reading}
+use Rattle.book.specs.Form.{marked, piece, pieces, behind, wrong, wrong_next, wrong_names, wrong_controlled, or_else, first_wrong, Cut, whole, broken, cut, record_from, State, start, advanced, after_fields, after_cut, records_in, form, filing, reading}
 use Rattle.book.specs.Declarations.{Declares, no_view}
 use Rattle.book.proofs.Fieldwise.{Needed}
 use Rattle.book.proofs.Cuts.{Whole, cut_whole, needed}

@@ -1,5 +1,5 @@
 -- A reading goes on record by record: what is left gives the whole.
-use Rattle.std.proofs.Common.{◌≡◌, ℕ, zero, suc, ◌+◌, ◌-◌, ◌/◌, ◌<◌, ◌≤◌, min, true, false, ◌⊎◌, List, [], ◌∷◌, length, get_or, take, drop, Some, None, Ok, Err, Result, sym, refl, ap, ◌∙◌, subst, ap₂, ⊎_elim, arith}
+use Rattle.std.proofs.Common.{◌≡◌, ℕ, zero, suc, ◌+◌, ◌-◌, ◌/◌, ◌<◌, ◌≤◌, min, true, false, List, [], ◌∷◌, length, get_or, take, drop, Some, None, Ok, Err, Result, sym, refl, ap, ◌∙◌, subst, ap₂, ⊎_elim, arith}
 use Rattle.std.proofs.lemmas.List.{take-take, drop-take, drop-drop, drop_all, length-drop, get_or-take}
 use Rattle.std.proofs.lemmas.Bool.{cases_Bool}
 use Rattle.book.specs.declared.phase.Phase.{Phase}
@@ -9,7 +9,7 @@ use Rattle.book.specs.declared.refusal.Fault.{Fault}
 use Rattle.book.specs.declared.position.Position.{Position}
 use Rattle.book.specs.Layout.{Field, width, layout, limit, kind_of}
 use Rattle.book.specs.Contents.{Record, Contents, nothing, count, filed}
-use Rattle.book.specs.Form.{marked, span, pieces, wrong, or_else, first_wrong, whole, broken, cut, record_from, State, prepended, after_cut, after_fields, records_in, filing, opening, after_opening, reading}
+use Rattle.book.specs.Form.{marked, span, pieces, wrong, or_else, first_wrong, cut, record_from, State, prepended, after_cut, after_fields, records_in, filing, opening, after_opening, reading}
 use Rattle.book.specs.FormLaws.{numbered}
 use Rattle.book.specs.Reading.{Handed, Hands, passed}
 use Rattle.book.proofs.Cuts.{Whole, cut_whole}

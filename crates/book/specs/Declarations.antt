@@ -4,7 +4,6 @@ use Rattle.sets.specs.Members.{In, none}
 use Rattle.records.specs.declared.TypeRecord.{TypeRecord}
 use Rattle.records.specs.declared.RoleRecord.{RoleRecord}
 use Rattle.records.specs.declared.GroupRecord.{GroupRecord}
-use Rattle.records.specs.declared.Rights.{Rights}
 use Rattle.records.specs.declared.View.{View}
 use Rattle.records.specs.declared.SubjectRecord.{SubjectRecord}
 use Rattle.book.specs.Contents.{Contents}

@@ -1,5 +1,5 @@
 -- What the rules ask of a view by itself, of a view and one that it extends, and of two views.
-use Rattle.std.specs.Prelude.{◌≡◌, ℕ, ◌⊎◌, ◌≢◌}
+use Rattle.std.specs.Prelude.{ℕ, ◌⊎◌, ◌≢◌}
 use Rattle.sets.specs.Members.{In, Bit}
 use Rattle.records.specs.declared.View.{View}
 use Rattle.views.specs.Some.{Exists}

@@ -1,4 +1,4 @@
-use Rattle.std.proofs.Common.{sym, ap, subst}
+use Rattle.std.proofs.Common.{sym, subst}
 use Rattle.records.specs.declared.View.{View}
 use Rattle.book.specs.Contents.{contents_of}
 use Rattle.book.specs.Declarations.{view_at}

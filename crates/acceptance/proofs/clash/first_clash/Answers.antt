@@ -1,7 +1,7 @@
-use Rattle.std.proofs.Common.{◌≡◌, sym, refl, ◌∙◌, subst, inl, arith, below_more}
+use Rattle.std.proofs.Common.{sym, refl, ◌∙◌, subst, inl, arith, below_more}
 use Rattle.book.specs.Contents.{contents_of}
 use Rattle.views.proofs.Tested.{fails}
-use Rattle.acceptance.proofs.Clashing.{Before, Unshared, before_none, before_first, before_more, before_next, no_clash_unshared}
+use Rattle.acceptance.proofs.Clashing.{before_none, before_first, before_more, before_next, no_clash_unshared}
 use Rattle.acceptance.specs.Rules.{Shared}
 use Rattle.acceptance.specs.Checks.{FirstClash}
 use Rattle.acceptance.proofs.clash.first_clash.Goals as goal

@@ -1,5 +1,5 @@
-use Rattle.std.proofs.Common.{map, refl, ap, subst}
-use Rattle.sets.specs.Members.{Iff, In, none}
+use Rattle.std.proofs.Common.{map, refl, subst}
+use Rattle.sets.specs.Members.{Iff, In}
 use Rattle.hierarchy.specs.Order.{Collected}
 use Rattle.book.specs.Contents.{contents_of}
 use Rattle.acceptance.specs.Orders.{group_links}

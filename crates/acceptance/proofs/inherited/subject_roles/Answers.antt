@@ -1,4 +1,4 @@
-use Rattle.std.proofs.Common.{◌≡◌, ℕ, ◌+◌, length, sym, ap, subst, arith}
+use Rattle.std.proofs.Common.{ℕ, ◌+◌, sym, ap, subst, arith}
 use mathlib.Core.Logic.{∥∥₁_elim}
 use mathlib.Core.HLevel.{⊥_prop}
 use Rattle.std.proofs.lemmas.List.{get_or_past}
@@ -6,7 +6,6 @@ use Rattle.sets.specs.declared.NumberSet.{NumberSet}
 use Rattle.sets.specs.Members.{In, Iff}
 use Rattle.sets.proofs.Membership.{not_in_none}
 use Rattle.book.specs.Contents.{contents_of}
-use Rattle.book.specs.Declarations.{subject_at}
 use Rattle.views.specs.Some.{Exists}
 use Rattle.acceptance.specs.Orders.{RoleOf}
 use Rattle.views.proofs.Tested.{fails}

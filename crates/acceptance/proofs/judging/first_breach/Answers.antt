@@ -1,4 +1,4 @@
-use Rattle.std.proofs.Common.{List, map, length, sym, refl, subst, arith}
+use Rattle.std.proofs.Common.{map, length, sym, refl, subst}
 use Rattle.hierarchy.specs.Order.{Falling}
 use Rattle.book.specs.Contents.{contents_of}
 use Rattle.acceptance.specs.Checks.{up_to, of_view_and_bases, of_pair}

@@ -1,4 +1,4 @@
-use Rattle.std.proofs.Common.{◌+◌, ◌/◌, ◌^◌, map, length, sym, ap, ◌∙◌, subst, arith}
+use Rattle.std.proofs.Common.{◌+◌, ◌/◌, ◌^◌, length, sym, ap, ◌∙◌, subst, arith}
 use Rattle.std.proofs.lemmas.Bool.{eq-eqb, ne_eqb}
 use Rattle.book.specs.Layout.{layout}
 use Rattle.book.proofs.Spans.{Counted, span_of, counted_none, counted_more, counted_pass, counted_fits, counted_all, span_small, span_widths, unfit_past, unfit_first, fits}

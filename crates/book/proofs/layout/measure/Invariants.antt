@@ -1,4 +1,3 @@
-use Rattle.std.proofs.Common.{map}
 use Rattle.book.proofs.Spans.{Counted}
 use Rattle.book.proofs.layout.measure.Given as goal
 

@@ -1,6 +1,5 @@
 use Rattle.std.proofs.Common.{refl, inl, inr, ⊎_elim}
-use mathlib.Core.Logic.{∥∥₁_map, ∥∥₁_elim}
-use mathlib.Core.HLevel.{⊥_prop}
+use mathlib.Core.Logic.{∥∥₁_map}
 use Rattle.std.proofs.lemmas.Bool.{both_ways}
 use Rattle.views.proofs.opposing.are_opposed.Goals as goal
 

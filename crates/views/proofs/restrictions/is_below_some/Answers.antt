@@ -1,4 +1,4 @@
-use Rattle.std.proofs.Common.{◌<◌, false, refl, ⊎_elim, arith}
+use Rattle.std.proofs.Common.{false, refl, ⊎_elim, arith}
 use mathlib.Core.Logic.{∥∥₁_elim}
 use mathlib.Core.HLevel.{⊥_prop}
 use Rattle.std.proofs.lemmas.Bool.{both_ways, cases_lt}
