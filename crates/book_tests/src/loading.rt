@@ -7,9 +7,9 @@ use hierarchy::kept::Kept;
 use std::test::Fail;
 
 #[test]
-fn accepted_books(rt: HostRuntime) {
-    check_accepted(&rt, &[1]);
-    check_accepted(&rt, &BOOK);
+fn accepted_books() -> Result<(), Fail> {
+    check_accepted(&[1])?;
+    check_accepted(&BOOK)
 }
 
 #[test]

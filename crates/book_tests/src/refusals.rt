@@ -4,84 +4,76 @@ use std::test::Fail;
 
 #[test]
 fn size(rt: HostRuntime) -> Result<(), Fail> {
-    check_refused(&rt, &[], 1, 0)?;
+    check_refused(&[], 1, 0)?;
     let long = vec![in rt.alloc(); 1u8; 16385]?;
-    check_refused(&rt, &long, 1, 0)?;
+    check_refused(&long, 1, 0)?;
     let longest = vec![in rt.alloc(); 1u8; 16384]?;
-    check_refused(&rt, &longest, 8, 1)?;
-    check_passes(&rt, &[1]);
-    Ok(())
+    check_refused(&longest, 8, 1)?;
+    check_passes(&[1])
 }
 
 #[test]
-fn version(rt: HostRuntime) -> Result<(), Fail> {
-    check_refused(&rt, &[2], 2, 0)?;
-    check_refused(&rt, &[0, 1, 0], 2, 0)
+fn version() -> Result<(), Fail> {
+    check_refused(&[2], 2, 0)?;
+    check_refused(&[0, 1, 0], 2, 0)
 }
 
 #[test]
-fn order(rt: HostRuntime) -> Result<(), Fail> {
-    check_refused(&rt, &[1, 6, 0], 3, 1)?;
-    check_refused(&rt, &[1, 0, 0], 3, 1)?;
-    check_refused(&rt, &[1, 2, 0, 1, 0], 3, 3)?;
-    check_passes(&rt, &[1, 1, 0, 3, 0, 3, 0, 5, 0]);
-    Ok(())
+fn order() -> Result<(), Fail> {
+    check_refused(&[1, 6, 0], 3, 1)?;
+    check_refused(&[1, 0, 0], 3, 1)?;
+    check_refused(&[1, 2, 0, 1, 0], 3, 3)?;
+    check_passes(&[1, 1, 0, 3, 0, 3, 0, 5, 0])
 }
 
 #[test]
-fn ends(rt: HostRuntime) -> Result<(), Fail> {
-    check_refused(&rt, &[1, 1], 4, 1)?;
-    check_refused(&rt, &[1, 1, 0, 2, 1, 0, 0, 0, 0, 0, 0, 0], 4, 3)?;
-    check_refused(&rt, &[1, 1, 0, 4, 129, 0, 0, 0, 0, 0, 0, 0, 0, 1], 4, 3)
+fn ends() -> Result<(), Fail> {
+    check_refused(&[1, 1], 4, 1)?;
+    check_refused(&[1, 1, 0, 2, 1, 0, 0, 0, 0, 0, 0, 0], 4, 3)?;
+    check_refused(&[1, 1, 0, 4, 129, 0, 0, 0, 0, 0, 0, 0, 0, 1], 4, 3)
 }
 
 #[test]
-fn map(rt: HostRuntime) -> Result<(), Fail> {
-    check_refused(&rt, &[1, 1, 4], 5, 1)?;
-    check_refused(&rt, &[1, 2, 2], 5, 1)?;
-    check_refused(&rt, &[1, 3, 4], 5, 1)?;
-    check_refused(&rt, &[1, 5, 2], 5, 1)?;
-    check_refused(&rt, &[1, 1, 0, 4, 0], 5, 3)
+fn map() -> Result<(), Fail> {
+    check_refused(&[1, 1, 4], 5, 1)?;
+    check_refused(&[1, 2, 2], 5, 1)?;
+    check_refused(&[1, 3, 4], 5, 1)?;
+    check_refused(&[1, 5, 2], 5, 1)?;
+    check_refused(&[1, 1, 0, 4, 0], 5, 3)
 }
 
 #[test]
-fn empty(rt: HostRuntime) -> Result<(), Fail> {
-    check_refused(&rt, &[1, 1, 2, 0, 0, 0, 0, 0, 0, 0, 0], 6, 1)?;
-    check_refused(&rt, &[1, 1, 0, 4, 17, 0, 0], 6, 3)?;
+fn empty() -> Result<(), Fail> {
+    check_refused(&[1, 1, 2, 0, 0, 0, 0, 0, 0, 0, 0], 6, 1)?;
+    check_refused(&[1, 1, 0, 4, 17, 0, 0], 6, 3)?;
     check_refused(
-        &rt,
         &[
             1, 1, 0, 4, 129, 0, 0, 0, 0, 0, 0, 0, 0, 0, 0, 0, 0, 0, 0, 0, 0, 0,
         ],
         6,
         3,
     )?;
-    check_passes(
-        &rt,
-        &[
-            1, 1, 0, 4, 129, 0, 0, 0, 0, 0, 0, 0, 0, 0, 0, 0, 0, 0, 0, 0, 0, 1,
-        ],
-    );
-    Ok(())
+    check_passes(&[
+        1, 1, 0, 4, 129, 0, 0, 0, 0, 0, 0, 0, 0, 0, 0, 0, 0, 0, 0, 0, 0, 1,
+    ])
 }
 
 #[test]
 fn too_many(rt: HostRuntime) -> Result<(), Fail> {
-    check_passes(&rt, &plain_records(rt.alloc(), 1, 64)?);
-    check_refused(&rt, &plain_records(rt.alloc(), 1, 65)?, 7, 129)?;
-    check_refused(&rt, &plain_records(rt.alloc(), 2, 65)?, 7, 129)?;
-    check_refused(&rt, &plain_records(rt.alloc(), 3, 65)?, 7, 129)?;
-    check_passes(&rt, &plain_records(rt.alloc(), 5, 256)?);
-    check_refused(&rt, &plain_records(rt.alloc(), 5, 257)?, 7, 513)
+    check_passes(&plain_records(rt.alloc(), 1, 64)?)?;
+    check_refused(&plain_records(rt.alloc(), 1, 65)?, 7, 129)?;
+    check_refused(&plain_records(rt.alloc(), 2, 65)?, 7, 129)?;
+    check_refused(&plain_records(rt.alloc(), 3, 65)?, 7, 129)?;
+    check_passes(&plain_records(rt.alloc(), 5, 256)?)?;
+    check_refused(&plain_records(rt.alloc(), 5, 257)?, 7, 513)
 }
 
 #[test]
-fn undeclared(rt: HostRuntime) -> Result<(), Fail> {
-    check_refused(&rt, &[1, 1, 1, 0, 0, 0, 0, 0, 0, 0, 1], 8, 1)?;
-    check_refused(&rt, &[1, 1, 0, 4, 1, 1], 8, 3)?;
-    check_refused(&rt, &[1, 1, 0, 4, 17, 0, 8], 8, 3)?;
-    check_refused(&rt, &[1, 5, 1, 0, 0, 0, 0, 0, 0, 0, 1], 8, 1)?;
-    check_passes(&rt, &[1, 1, 0, 1, 1, 0, 0, 0, 0, 0, 0, 0, 1]);
-    check_passes(&rt, &[1, 1, 0, 4, 17, 0, 7]);
-    Ok(())
+fn undeclared() -> Result<(), Fail> {
+    check_refused(&[1, 1, 1, 0, 0, 0, 0, 0, 0, 0, 1], 8, 1)?;
+    check_refused(&[1, 1, 0, 4, 1, 1], 8, 3)?;
+    check_refused(&[1, 1, 0, 4, 17, 0, 8], 8, 3)?;
+    check_refused(&[1, 5, 1, 0, 0, 0, 0, 0, 0, 0, 1], 8, 1)?;
+    check_passes(&[1, 1, 0, 1, 1, 0, 0, 0, 0, 0, 0, 0, 1])?;
+    check_passes(&[1, 1, 0, 4, 17, 0, 7])
 }

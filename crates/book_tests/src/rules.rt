@@ -10,13 +10,7 @@ fn two_rights(rt: HostRuntime) -> Result<(), Fail> {
         strongly_permitted: 1,
         ..PLAIN
     };
-    check_rejected(
-        &rt,
-        &book_of(rt.alloc(), &[PLAIN, view])?,
-        11,
-        FIRST + 3,
-        None,
-    )
+    check_rejected(&book_of(rt.alloc(), &[PLAIN, view])?, 11, FIRST + 3, None)
 }
 
 #[test]
@@ -25,14 +19,13 @@ fn foreign_operation(rt: HostRuntime) -> Result<(), Fail> {
         weakly_permitted: 4,
         ..PLAIN
     };
-    check_rejected(&rt, &book_of(rt.alloc(), &[view])?, 12, FIRST, None)?;
+    check_rejected(&book_of(rt.alloc(), &[view])?, 12, FIRST, None)?;
     let inherited = ViewFields {
         controlled: 1,
         weakly_permitted: 7,
         ..PLAIN
     };
-    check_accepted(&rt, &book_of(rt.alloc(), &[inherited])?);
-    Ok(())
+    check_accepted(&book_of(rt.alloc(), &[inherited])?)
 }
 
 #[test]
@@ -42,7 +35,7 @@ fn assignable_denial(rt: HostRuntime) -> Result<(), Fail> {
         weakly_denied: 1,
         ..PLAIN
     };
-    check_rejected(&rt, &book_of(rt.alloc(), &[view])?, 13, FIRST, None)
+    check_rejected(&book_of(rt.alloc(), &[view])?, 13, FIRST, None)
 }
 
 #[test]
@@ -52,7 +45,7 @@ fn virtual_right(rt: HostRuntime) -> Result<(), Fail> {
         weakly_permitted: 1,
         ..PLAIN
     };
-    check_rejected(&rt, &book_of(rt.alloc(), &[view])?, 14, FIRST, None)
+    check_rejected(&book_of(rt.alloc(), &[view])?, 14, FIRST, None)
 }
 
 #[test]
@@ -62,16 +55,9 @@ fn controlled_type(rt: HostRuntime) -> Result<(), Fail> {
         ..PLAIN
     };
     let view = ViewFields { bases: 1, ..PLAIN };
-    check_rejected(
-        &rt,
-        &book_of(rt.alloc(), &[base, view])?,
-        15,
-        FIRST + 3,
-        Some(0),
-    )?;
+    check_rejected(&book_of(rt.alloc(), &[base, view])?, 15, FIRST + 3, Some(0))?;
     let lower = ViewFields { bases: 1, ..base };
-    check_accepted(&rt, &book_of(rt.alloc(), &[PLAIN, lower])?);
-    Ok(())
+    check_accepted(&book_of(rt.alloc(), &[PLAIN, lower])?)
 }
 
 #[test]
@@ -86,7 +72,6 @@ fn role_restriction(rt: HostRuntime) -> Result<(), Fail> {
         ..PLAIN
     };
     check_rejected(
-        &rt,
         &book_of(rt.alloc(), &[base, view])?,
         16,
         FIRST + 11,
@@ -94,7 +79,6 @@ fn role_restriction(rt: HostRuntime) -> Result<(), Fail> {
     )?;
     let open = ViewFields { bases: 1, ..PLAIN };
     check_rejected(
-        &rt,
         &book_of(rt.alloc(), &[base, open])?,
         16,
         FIRST + 11,
@@ -104,8 +88,7 @@ fn role_restriction(rt: HostRuntime) -> Result<(), Fail> {
         restriction: 2,
         ..view
     };
-    check_accepted(&rt, &book_of(rt.alloc(), &[base, lower])?);
-    Ok(())
+    check_accepted(&book_of(rt.alloc(), &[base, lower])?)
 }
 
 #[test]
@@ -116,14 +99,13 @@ fn requirement(rt: HostRuntime) -> Result<(), Fail> {
     };
     let view = ViewFields { bases: 2, ..PLAIN };
     let book = book_of(rt.alloc(), &[PLAIN, base, view])?;
-    check_rejected(&rt, &book, 17, FIRST + 14, Some(1))?;
+    check_rejected(&book, 17, FIRST + 14, Some(1))?;
     let fixed = ViewFields {
         modifiers: 4,
         ..PLAIN
     };
     let loose = ViewFields { bases: 1, ..PLAIN };
     check_rejected(
-        &rt,
         &book_of(rt.alloc(), &[fixed, loose])?,
         17,
         FIRST + 4,
@@ -143,7 +125,6 @@ fn redefinition(rt: HostRuntime) -> Result<(), Fail> {
         ..PLAIN
     };
     check_rejected(
-        &rt,
         &book_of(rt.alloc(), &[strong, view])?,
         18,
         FIRST + 19,
@@ -153,8 +134,7 @@ fn redefinition(rt: HostRuntime) -> Result<(), Fail> {
         weakly_denied: 1,
         ..PLAIN
     };
-    check_accepted(&rt, &book_of(rt.alloc(), &[weak, view])?);
-    Ok(())
+    check_accepted(&book_of(rt.alloc(), &[weak, view])?)
 }
 
 #[test]
@@ -169,11 +149,10 @@ fn clashing(rt: HostRuntime) -> Result<(), Fail> {
         ..PLAIN
     };
     let book = book_of(rt.alloc(), &[PLAIN, permits, denies])?;
-    check_rejected(&rt, &book, 19, FIRST + 3, Some(2))?;
+    check_rejected(&book, 19, FIRST + 3, Some(2))?;
     let elsewhere = ViewFields {
         controlled: 2,
         ..denies
     };
-    check_accepted(&rt, &book_of(rt.alloc(), &[permits, elsewhere])?);
-    Ok(())
+    check_accepted(&book_of(rt.alloc(), &[permits, elsewhere])?)
 }

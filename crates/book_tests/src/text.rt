@@ -1,44 +1,34 @@
 //! What the author of a book is told.
-use crate::books::plain_records;
+use crate::books::{check, plain_records};
 use crate::made::{PLAIN, ViewFields, book_of};
 use listing::judged_report::judged_report_on;
 use listing::report::report_on;
 use std::alloc::Global;
-use std::process::Abort;
 use std::test::Fail;
 
 // Checks the whole text of a report on a book.
-fn check_text(rt: &impl Abort, heap: Global, book: &[u8], text: &str) -> Result<(), Fail> {
+fn check_text(heap: Global, book: &[u8], text: &str) -> Result<(), Fail> {
     let report = report_on(book);
     let written = format!(in heap; "{report}")?;
-    assert!(rt; written.as_str() == text);
-    Ok(())
+    check(written.as_str() == text, "another text")
 }
 
 #[test]
 fn refusals_of_the_whole_book_and_of_kinds(rt: HostRuntime) -> Result<(), Fail> {
     let heap = rt.alloc();
     check_text(
-        &rt,
         heap,
         &[],
         "refused 1 at 0: the book is empty, or has more than 16384 bytes\n",
     )?;
+    check_text(heap, &[2], "refused 2 at 0: the first byte is not 01\n")?;
     check_text(
-        &rt,
-        heap,
-        &[2],
-        "refused 2 at 0: the first byte is not 01\n",
-    )?;
-    check_text(
-        &rt,
         heap,
         &[1, 6],
         "refused 3 at 1: the kind byte is not 1 to 5, or is lower than the one before\n",
     )?;
     let many = plain_records(rt.alloc(), 1, 65)?;
     check_text(
-        &rt,
         heap,
         &many,
         "refused 7 at 129: there are already as many records of this kind as there may be\n",
@@ -49,25 +39,21 @@ fn refusals_of_the_whole_book_and_of_kinds(rt: HostRuntime) -> Result<(), Fail> 
 fn refusals_of_records(rt: HostRuntime) -> Result<(), Fail> {
     let heap = rt.alloc();
     check_text(
-        &rt,
         heap,
         &[1, 1],
         "refused 4 at 1: the book ends inside the record\n",
     )?;
     check_text(
-        &rt,
         heap,
         &[1, 1, 0, 4, 0],
         "refused 5 at 3: the map has a bit without a field, or the view has no controlled type\n",
     )?;
     check_text(
-        &rt,
         heap,
         &[1, 1, 2, 0, 0, 0, 0, 0, 0, 0, 0],
         "refused 6 at 1: a set is present and empty, or the modifiers are 0\n",
     )?;
     check_text(
-        &rt,
         heap,
         &[1, 1, 1, 0, 0, 0, 0, 0, 0, 0, 1],
         "refused 8 at 1: a number is not declared before, or the modifiers are above 7\n",
@@ -77,7 +63,6 @@ fn refusals_of_records(rt: HostRuntime) -> Result<(), Fail> {
 #[test]
 fn a_view_with_every_modifier(rt: HostRuntime) -> Result<(), Fail> {
     check_text(
-        &rt,
         rt.alloc(),
         &[
             1, 1, 0, 2, 0, 4, 121, 0, 0, 0, 0, 0, 0, 0, 0, 1, 7, 0, 0, 0, 0, 0, 0, 0, 1, 128, 0, 0,
@@ -88,11 +73,10 @@ fn a_view_with_every_modifier(rt: HostRuntime) -> Result<(), Fail> {
 }
 
 // Checks how the text of a report on a judged book ends.
-fn check_end(rt: &impl Abort, heap: Global, book: &[u8], end: &str) -> Result<(), Fail> {
+fn check_end(heap: Global, book: &[u8], end: &str) -> Result<(), Fail> {
     let report = judged_report_on(book);
     let written = format!(in heap; "{report}")?;
-    assert!(rt; written.as_str().ends_with(end));
-    Ok(())
+    check(written.as_str().ends_with(end), "another end")
 }
 
 #[test]
@@ -107,7 +91,6 @@ fn a_view_and_its_base(rt: HostRuntime) -> Result<(), Fail> {
         ..PLAIN
     };
     check_end(
-        &rt,
         rt.alloc(),
         &book_of(rt.alloc(), &[PLAIN, base, view])?,
         "views 3, subjects 0\nrefused 18 at 75: view 2 against its base view 1: a right of the base is missing or changed in a way that is not allowed, or a new right denies\n",
@@ -126,7 +109,6 @@ fn two_views_that_clash(rt: HostRuntime) -> Result<(), Fail> {
         ..PLAIN
     };
     check_end(
-        &rt,
         rt.alloc(),
         &book_of(rt.alloc(), &[permits, denies])?,
         "views 2, subjects 0\nrefused 19 at 53: view 0 and view 1: one strongly permits an operation that the other strongly denies, and a type lies at or below both controlled types\n",
