@@ -1,7 +1,7 @@
 #!/usr/bin/env python3
 """Respells the repository's own definitions and lemmas: words in snake case, types in camel case.
 
-Run once at the top of the repository, after port.py and before any edit by hand. A lemma whose name falls together with
+Run once at the top of the repository, after port.py and before any edit by hand; it stops where it has been run. A lemma whose name falls together with
 its definition's gets `_lem`, a test of the worked cases that falls together with a rule gets `_test`.
 """
 import pathlib
@@ -378,6 +378,8 @@ def respelled(text):
 
 
 def main():
+    if "contentsOf" not in pathlib.Path("crates/book/specs/Contents.antt").read_text():
+        raise SystemExit("respell: the names are respelled already")
     for path in sorted(pathlib.Path("crates").rglob("*")):
         if path.suffix in (".rt", ".antt", ".edit") and "out" not in path.parts:
             old = path.read_text()
@@ -386,4 +388,5 @@ def main():
                 path.write_text(new)
 
 
-main()
+if __name__ == "__main__":
+    main()

@@ -8,7 +8,8 @@ use Rattle.std.proofs.lemmas.Bool.{cases_lt, cases_order}
 use Rattle.sets.specs.Members.{In, Iff}
 use Rattle.sets.proofs.Membership.{not_in_none}
 use Rattle.hierarchy.specs.Order.{Below, links_of}
-use Rattle.hierarchy.specs.Paths.{below_refl, below_trans, below_ind, link_declared}
+use Rattle.hierarchy.specs.Paths.{below_refl, below_trans, link_declared}
+use Rattle.hierarchy.proofs.Paths.{below_ind}
 use Rattle.records.specs.declared.View.{View}
 use Rattle.book.specs.Contents.{Contents}
 use Rattle.book.specs.Declarations.{no_view, view_at, Declares}

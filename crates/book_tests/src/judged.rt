@@ -1,5 +1,5 @@
 //! How books are judged, through both orders.
-use crate::books::check;
+use crate::checks::{check, check_eq};
 use acceptance::accepted::Book;
 use hierarchy::kept::Kept;
 use hierarchy::order::Hierarchy;
@@ -16,9 +16,9 @@ fn check_through<H: Hierarchy + Drop>(
     match Book::judge::<H>(book) {
         Ok(_) => Err(Fail::new("the book is accepted")),
         Err(rejection) => {
-            check(rejection.reason.number() == number, "another number")?;
-            check(rejection.place == place, "another place")?;
-            check(rejection.other == other, "another view")
+            check_eq(rejection.reason.number(), number)?;
+            check_eq(rejection.place, place)?;
+            check_eq(rejection.other, other)
         }
     }
 }
@@ -36,12 +36,6 @@ pub fn check_rejected(
 
 /// Checks that a book is accepted through both orders.
 pub fn check_accepted(book: &[u8]) -> Result<(), Fail> {
-    check(
-        Book::judge::<Kept>(book).is_ok(),
-        "rejected through the rows",
-    )?;
-    check(
-        Book::judge::<Walked>(book).is_ok(),
-        "rejected through the links",
-    )
+    check(Book::judge::<Kept>(book).is_ok())?;
+    check(Book::judge::<Walked>(book).is_ok())
 }

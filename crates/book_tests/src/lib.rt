@@ -4,7 +4,11 @@
 #[cfg(test)]
 mod books;
 #[cfg(test)]
+mod checks;
+#[cfg(test)]
 mod judged;
+#[cfg(test)]
+mod judged_text;
 #[cfg(test)]
 mod loading;
 #[cfg(test)]

@@ -1,4 +1,5 @@
 //! Loading: an accepted book replaces the one before, and a rejected one leaves it.
+use crate::checks::{check, check_eq};
 use crate::judged::check_accepted;
 use crate::made::{PLAIN, ViewFields, book_of};
 use crate::worked::BOOK;
@@ -13,29 +14,28 @@ fn accepted_books() -> Result<(), Fail> {
 }
 
 #[test]
-fn an_accepted_book_replaces(rt: HostRuntime) {
+fn an_accepted_book_replaces() -> Result<(), Fail> {
     let mut book = Book::empty();
-    assert_eq!(rt; book.records().views.len(), 0);
-    assert!(rt; book.load::<Kept>(&BOOK).is_ok());
-    assert_eq!(rt; book.records().views.len(), 3);
-    assert!(rt; book.load::<Kept>(&[1]).is_ok());
-    assert_eq!(rt; book.records().views.len(), 0);
+    check_eq(book.records().views.len(), 0)?;
+    check(book.load::<Kept>(&BOOK).is_ok())?;
+    check_eq(book.records().views.len(), 3)?;
+    check(book.load::<Kept>(&[1]).is_ok())?;
+    check_eq(book.records().views.len(), 0)
 }
 
 #[test]
 fn a_rejected_book_leaves(rt: HostRuntime) -> Result<(), Fail> {
     let mut book = Book::empty();
-    assert!(rt; book.load::<Kept>(&BOOK).is_ok());
-    assert!(rt; book.load::<Kept>(&[2]).is_err());
-    assert_eq!(rt; book.records().views.len(), 3);
+    check(book.load::<Kept>(&BOOK).is_ok())?;
+    check(book.load::<Kept>(&[2]).is_err())?;
+    check_eq(book.records().views.len(), 3)?;
     let denies = ViewFields {
         modifiers: 1,
         weakly_denied: 1,
         ..PLAIN
     };
     let rejected = book_of(rt.alloc(), &[denies])?;
-    assert!(rt; book.load::<Kept>(&rejected).is_err());
-    assert_eq!(rt; book.records().views.len(), 3);
-    assert_eq!(rt; book.records().subjects.len(), 2);
-    Ok(())
+    check(book.load::<Kept>(&rejected).is_err())?;
+    check_eq(book.records().views.len(), 3)?;
+    check_eq(book.records().subjects.len(), 2)
 }

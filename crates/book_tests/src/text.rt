@@ -1,7 +1,6 @@
 //! What the author of a book is told.
-use crate::books::{check, plain_records};
-use crate::made::{PLAIN, ViewFields, book_of};
-use listing::judged_report::judged_report_on;
+use crate::books::plain_records;
+use crate::checks::check;
 use listing::report::report_on;
 use std::alloc::Global;
 use std::test::Fail;
@@ -10,7 +9,7 @@ use std::test::Fail;
 fn check_text(heap: Global, book: &[u8], text: &str) -> Result<(), Fail> {
     let report = report_on(book);
     let written = format!(in heap; "{report}")?;
-    check(written.as_str() == text, "another text")
+    check(written.as_str() == text)
 }
 
 #[test]
@@ -60,57 +59,17 @@ fn refusals_of_records(rt: HostRuntime) -> Result<(), Fail> {
     )
 }
 
+/// A book whose one view has every modifier, and two permissions.
+pub const WITH_EVERY_MODIFIER: [u8; 33] = [
+    1, 1, 0, 2, 0, 4, 121, 0, 0, 0, 0, 0, 0, 0, 0, 1, 7, 0, 0, 0, 0, 0, 0, 0, 1, 128, 0, 0, 0, 0,
+    0, 0, 0,
+];
+
 #[test]
 fn a_view_with_every_modifier(rt: HostRuntime) -> Result<(), Fail> {
     check_text(
         rt.alloc(),
-        &[
-            1, 1, 0, 2, 0, 4, 121, 0, 0, 0, 0, 0, 0, 0, 0, 1, 7, 0, 0, 0, 0, 0, 0, 0, 1, 128, 0, 0,
-            0, 0, 0, 0, 0,
-        ],
+        &WITH_EVERY_MODIFIER,
         "type 0 at 1\nrole 0 at 3\nview 0 at 5; type 0; role restriction 0; assignable; virtual; static; operation 0 weakly permitted; operation 63 strongly permitted\ntypes 1, roles 1, groups 0, views 1, subjects 0\n",
-    )
-}
-
-// Checks how the text of a report on a judged book ends.
-fn check_end(heap: Global, book: &[u8], end: &str) -> Result<(), Fail> {
-    let report = judged_report_on(book);
-    let written = format!(in heap; "{report}")?;
-    check(written.as_str().ends_with(end), "another end")
-}
-
-#[test]
-fn a_view_and_its_base(rt: HostRuntime) -> Result<(), Fail> {
-    let base = ViewFields {
-        strongly_denied: 1,
-        ..PLAIN
-    };
-    let view = ViewFields {
-        bases: 2,
-        weakly_permitted: 1,
-        ..PLAIN
-    };
-    check_end(
-        rt.alloc(),
-        &book_of(rt.alloc(), &[PLAIN, base, view])?,
-        "views 3, subjects 0\nrefused 18 at 75: view 2 against its base view 1: a right of the base is missing or changed in a way that is not allowed, or a new right denies\n",
-    )
-}
-
-#[test]
-fn two_views_that_clash(rt: HostRuntime) -> Result<(), Fail> {
-    let permits = ViewFields {
-        strongly_permitted: 1,
-        ..PLAIN
-    };
-    let denies = ViewFields {
-        controlled: 1,
-        strongly_denied: 1,
-        ..PLAIN
-    };
-    check_end(
-        rt.alloc(),
-        &book_of(rt.alloc(), &[permits, denies])?,
-        "views 2, subjects 0\nrefused 19 at 53: view 0 and view 1: one strongly permits an operation that the other strongly denies, and a type lies at or below both controlled types\n",
     )
 }

@@ -1,4 +1,5 @@
 //! The worked book of two types, two roles, a group, three views and two subjects.
+use crate::checks::{check, check_eq};
 use book::contents::Records;
 use book::read::read;
 use std::test::Fail;
@@ -26,60 +27,55 @@ fn records() -> Result<Records, Fail> {
 }
 
 #[test]
-fn counts(rt: HostRuntime) -> Result<(), Fail> {
+fn counts() -> Result<(), Fail> {
     let records = records()?;
-    assert_eq!(rt; records.types.len(), 2);
-    assert_eq!(rt; records.roles.len(), 2);
-    assert_eq!(rt; records.groups.len(), 1);
-    assert_eq!(rt; records.views.len(), 3);
-    assert_eq!(rt; records.subjects.len(), 2);
-    Ok(())
+    check_eq(records.types.len(), 2)?;
+    check_eq(records.roles.len(), 2)?;
+    check_eq(records.groups.len(), 1)?;
+    check_eq(records.views.len(), 3)?;
+    check_eq(records.subjects.len(), 2)
 }
 
 #[test]
-fn places_of_types_roles_and_groups(rt: HostRuntime) -> Result<(), Fail> {
+fn places_of_types_roles_and_groups() -> Result<(), Fail> {
     let records = records()?;
-    assert_eq!(rt; records.types.get(0).ok_or("type 0")?.place, 1);
-    assert_eq!(rt; records.types.get(1).ok_or("type 1")?.place, 11);
-    assert_eq!(rt; records.roles.get(0).ok_or("role 0")?.place, 29);
-    assert_eq!(rt; records.roles.get(1).ok_or("role 1")?.place, 31);
-    assert_eq!(rt; records.groups.get(0).ok_or("group 0")?.place, 41);
-    Ok(())
+    check_eq(records.types.get(0).ok_or("type 0")?.place, 1)?;
+    check_eq(records.types.get(1).ok_or("type 1")?.place, 11)?;
+    check_eq(records.roles.get(0).ok_or("role 0")?.place, 29)?;
+    check_eq(records.roles.get(1).ok_or("role 1")?.place, 31)?;
+    check_eq(records.groups.get(0).ok_or("group 0")?.place, 41)
 }
 
 #[test]
-fn places_of_views_and_subjects(rt: HostRuntime) -> Result<(), Fail> {
+fn places_of_views_and_subjects() -> Result<(), Fail> {
     let records = records()?;
-    assert_eq!(rt; records.views.get(0).ok_or("view 0")?.place, 51);
-    assert_eq!(rt; records.views.get(1).ok_or("view 1")?.place, 62);
-    assert_eq!(rt; records.views.get(2).ok_or("view 2")?.place, 81);
-    assert_eq!(rt; records.subjects.get(0).ok_or("subject 0")?.place, 101);
-    assert_eq!(rt; records.subjects.get(1).ok_or("subject 1")?.place, 111);
-    Ok(())
+    check_eq(records.views.get(0).ok_or("view 0")?.place, 51)?;
+    check_eq(records.views.get(1).ok_or("view 1")?.place, 62)?;
+    check_eq(records.views.get(2).ok_or("view 2")?.place, 81)?;
+    check_eq(records.subjects.get(0).ok_or("subject 0")?.place, 101)?;
+    check_eq(records.subjects.get(1).ok_or("subject 1")?.place, 111)
 }
 
 #[test]
-fn fields_of_a_view(rt: HostRuntime) -> Result<(), Fail> {
+fn fields_of_a_view() -> Result<(), Fail> {
     let view = records()?.views.get(2).ok_or("view 2")?;
-    assert_eq!(rt; view.controlled, 0);
-    assert_eq!(rt; view.bases.lowest(), Some(1));
-    assert!(rt; view.required.is_empty() && view.restriction.is_empty());
-    assert!(rt; view.is_assignable() && !view.is_virtual() && !view.is_static());
-    assert_eq!(rt; view.weak.permitted.len(), 2);
-    assert!(rt; view.weak.permitted.contains(1) && view.weak.permitted.contains(2));
-    assert!(rt;
+    check_eq(view.controlled, 0)?;
+    check_eq(view.bases.lowest(), Some(1))?;
+    check(view.required.is_empty() && view.restriction.is_empty())?;
+    check(view.is_assignable() && !view.is_virtual() && !view.is_static())?;
+    check_eq(view.weak.permitted.len(), 2)?;
+    check(view.weak.permitted.contains(1) && view.weak.permitted.contains(2))?;
+    check(
         view.strong.permitted.is_empty()
             && view.weak.denied.is_empty()
-            && view.strong.denied.is_empty()
-    );
-    Ok(())
+            && view.strong.denied.is_empty(),
+    )
 }
 
 #[test]
-fn no_record_past_the_last(rt: HostRuntime) -> Result<(), Fail> {
+fn no_record_past_the_last() -> Result<(), Fail> {
     let records = records()?;
-    assert!(rt; records.types.get(2).is_none());
-    assert!(rt; records.views.get(3).is_none());
-    assert!(rt; records.subjects.get(2).is_none());
-    Ok(())
+    check(records.types.get(2).is_none())?;
+    check(records.views.get(3).is_none())?;
+    check(records.subjects.get(2).is_none())
 }

@@ -1,3 +1,5 @@
+pub mod Paths
+pub mod Linking
 pub mod Walks
 pub mod Parts
 pub mod Gathering

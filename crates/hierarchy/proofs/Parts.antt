@@ -7,7 +7,8 @@ use Rattle.sets.specs.declared.NumberSet.{NumberSet}
 use Rattle.sets.specs.Members.{In, Iff}
 use Rattle.hierarchy.specs.Order.{links_of, Falling, Steps, here, up, Below, Reflexive, Transitive}
 use Rattle.hierarchy.specs.Rows.{Told, InRows}
-use Rattle.hierarchy.specs.Paths.{below_refl, below_trans, below_le, below_within, below_up}
+use Rattle.hierarchy.specs.Paths.{below_refl, below_trans, below_le, below_within}
+use Rattle.hierarchy.proofs.Paths.{below_up}
 
 -- row has i, and what is at or above those links of i that are below b
 pub record Part (links : List NumberSet) (i b : ℕ) (row : NumberSet) : Type 0 where

@@ -6,7 +6,8 @@ use Rattle.std.proofs.lemmas.Bool.{cases_eq}
 use Rattle.sets.specs.declared.NumberSet.{NumberSet}
 use Rattle.sets.specs.Members.{In, Iff}
 use Rattle.hierarchy.specs.Order.{links_of, Falling, Steps, here, up, Below}
-use Rattle.hierarchy.specs.Paths.{steps_from, below_refl, below_trans, below_link}
+use Rattle.hierarchy.specs.Paths.{steps_from, below_refl, below_trans}
+use Rattle.hierarchy.proofs.Paths.{below_link}
 
 -- a set into which one number was put has that one alone
 pub only : (empty row : NumberSet) (i : ℕ) → i < 64 → ((k : ℕ) → In k empty → ⊥) → ((k : ℕ) → Iff (In k row) (In k empty ⊎ ((k ≡ i) × (i < 64)))) → (k : ℕ) → Iff (In k row) (k ≡ i)

@@ -1,15 +1,14 @@
 -- Ways along the links, and the order that they make.
-use Rattle.std.specs.Prelude.{◌≡◌, ℕ, ◌<◌, ◌≤◌, true, List, length}
+use Rattle.std.specs.Prelude.{◌≡◌, ℕ, ◌<◌, ◌≤◌, List, length}
 use Rattle.std.proofs.Common.{subst, ⊎_elim, arith}
-use Rattle.std.proofs.Math.Bool.{Bool-set}
-use Rattle.std.proofs.Math.Logic.{∥∥₁_elim, ∥∥₁_map, ∥∥₁_map₂}
+use Rattle.std.proofs.Math.Logic.{∥∥₁_elim, ∥∥₁_map₂}
 use Rattle.std.proofs.Math.Bridge.{le_prop}
 use Rattle.std.proofs.lemmas.List.{get_or_past}
 use Rattle.std.proofs.lemmas.Bool.{cases_lt}
 use Rattle.sets.specs.declared.NumberSet.{NumberSet}
 use Rattle.sets.specs.Members.{In}
 use Rattle.sets.proofs.Membership.{not_in_none}
-use Rattle.hierarchy.specs.Order.{none, links_of, Falling, Steps, here, up, Below, Reflexive, Transitive, Contains, Holds, LeastOrder}
+use Rattle.hierarchy.specs.Order.{none, links_of, Falling, Steps, here, up, Below, Reflexive, Transitive}
 
 -- ---- ways
 
@@ -48,29 +47,3 @@ below_within links f a b p =
     let l : a < length links = ∥∥₁_elim p le_prop steps_from in
     let m = below_le links f a b p in
     (l, omega arith)
-
-pub below_link : (links : List NumberSet) → Falling links → Contains (Below links) links
-below_link links f a b h =
-    let l = link_declared links a b h in
-    let m = f.1 a b h in
-    ∣ up h (here (omega arith)) ∣₁
-
--- one link more at the lower end
-pub below_up : (links : List NumberSet) (a b c : ℕ) → In b (links_of links a) → Below links b c → Below links a c
-below_up links a b c h p = ∥∥₁_map p (up h)
-
-along : {links : List NumberSet} (R : ℕ → ℕ → Type 0) → Reflexive (length links) R → ((a b c : ℕ) → In b (links_of links a) → R b c → R a c) → {a b : ℕ} → Steps links a b → R a b
-along R r t (here {a = a} l) = r a l
-along R r t (up {a = a} {b = b} {c = c} e s) = t a b c e (along R r t s)
-
--- what holds of each declared number with itself, and passes down each link, holds of every pair
-pub below_ind : (links : List NumberSet) (R : ℕ → ℕ → Type 0) → ((a b : ℕ) → IsProp (R a b)) → Reflexive (length links) R → ((a b c : ℕ) → In b (links_of links a) → R b c → R a c) → (a b : ℕ) → Below links a b → R a b
-below_ind links R q r t a b p = ∥∥₁_elim p (q a b) (along R r t)
-
-pub least_order : LeastOrder
-least_order links f = (
-  below_refl links,
-  below_trans links,
-  below_link links f,
-  λ r re tr co. below_ind links (Holds r) (λ a b. Bool-set (r a b) true) re (λ a b c h. tr a b c (co a b h)),
-)

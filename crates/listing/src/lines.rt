@@ -1,4 +1,4 @@
-//! A record as text.
+//! A record as a line of text.
 use records::{GroupRecord, RoleRecord, SubjectRecord, TypeRecord, View};
 use sets::NumberSet;
 use std::fmt;

@@ -3,7 +3,7 @@ use Rattle.std.proofs.lemmas.List.{length-map}
 use Rattle.std.proofs.lemmas.Bool.{both_ways}
 use Rattle.sets.specs.declared.NumberSet.{NumberSet}
 use Rattle.sets.specs.Members.{In, Iff}
-use Rattle.hierarchy.specs.LinkingLemmas.{read_at}
+use Rattle.hierarchy.proofs.Linking.{read_at}
 use Rattle.hierarchy.proofs.Gathering.{Upto, upto_none, upto_take, upto_pass, upto_all}
 use Rattle.hierarchy.proofs.collecting.collect.Goals as goal
 use Rattle.hierarchy.proofs.collecting.collect.Goals.{then-at_or_below, else-at_or_below}

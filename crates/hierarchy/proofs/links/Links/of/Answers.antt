@@ -2,8 +2,8 @@ use Rattle.std.proofs.Common.{map, length, sym, subst, arith}
 use Rattle.std.proofs.lemmas.List.{length-map}
 use Rattle.std.proofs.lemmas.Bool.{both_ways}
 use Rattle.sets.specs.Members.{In}
-use Rattle.hierarchy.specs.Paths.{least_order}
-use Rattle.hierarchy.specs.LinkingLemmas.{read_at, filled_more, filled_done}
+use Rattle.hierarchy.proofs.Paths.{least_order}
+use Rattle.hierarchy.proofs.Linking.{read_at, filled_more, filled_done}
 use Rattle.hierarchy.proofs.links.Links.of.Goals as goal
 
 pub returns-then-len-gt64 : goal.returns-then-len-gt64

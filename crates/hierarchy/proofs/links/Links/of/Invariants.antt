@@ -1,5 +1,5 @@
 use Rattle.std.proofs.Common.{map}
-use Rattle.hierarchy.specs.LinkingLemmas.{Filled}
+use Rattle.hierarchy.proofs.Linking.{Filled}
 use Rattle.hierarchy.proofs.links.Links.of.Given as goal
 
 abbrev pub invariant-loop-i : goal.invariant-loop-i
