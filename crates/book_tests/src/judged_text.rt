@@ -1,7 +1,6 @@
 //! What the author of a book is told of how it is judged.
 use crate::checks::check;
 use crate::made::{PLAIN, ViewFields, book_of};
-use crate::text::WITH_EVERY_MODIFIER;
 use crate::worked::BOOK;
 use listing::judged_report::judged_report_on;
 use std::alloc::Global;
@@ -24,10 +23,13 @@ fn the_worked_book(rt: HostRuntime) -> Result<(), Fail> {
 }
 
 #[test]
-fn a_view_that_breaks_a_rule_by_itself(rt: HostRuntime) -> Result<(), Fail> {
+fn a_view_with_every_modifier(rt: HostRuntime) -> Result<(), Fail> {
     check_end(
         rt.alloc(),
-        &WITH_EVERY_MODIFIER,
+        &[
+            1, 1, 0, 2, 0, 4, 121, 0, 0, 0, 0, 0, 0, 0, 0, 1, 7, 0, 0, 0, 0, 0, 0, 0, 1, 128, 0, 0,
+            0, 0, 0, 0, 0,
+        ],
         "types 1, roles 1, groups 0, views 1, subjects 0\nrefused 12 at 5: view 0: a right is for an operation that the controlled type does not have\n",
     )
 }

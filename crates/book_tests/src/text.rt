@@ -59,17 +59,14 @@ fn refusals_of_records(rt: HostRuntime) -> Result<(), Fail> {
     )
 }
 
-/// A book whose one view has every modifier, and two permissions.
-pub const WITH_EVERY_MODIFIER: [u8; 33] = [
-    1, 1, 0, 2, 0, 4, 121, 0, 0, 0, 0, 0, 0, 0, 0, 1, 7, 0, 0, 0, 0, 0, 0, 0, 1, 128, 0, 0, 0, 0,
-    0, 0, 0,
-];
-
 #[test]
 fn a_view_with_every_modifier(rt: HostRuntime) -> Result<(), Fail> {
     check_text(
         rt.alloc(),
-        &WITH_EVERY_MODIFIER,
+        &[
+            1, 1, 0, 2, 0, 4, 121, 0, 0, 0, 0, 0, 0, 0, 0, 1, 7, 0, 0, 0, 0, 0, 0, 0, 1, 128, 0, 0,
+            0, 0, 0, 0, 0,
+        ],
         "type 0 at 1\nrole 0 at 3\nview 0 at 5; type 0; role restriction 0; assignable; virtual; static; operation 0 weakly permitted; operation 63 strongly permitted\ntypes 1, roles 1, groups 0, views 1, subjects 0\n",
     )
 }
