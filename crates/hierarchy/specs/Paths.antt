@@ -1,6 +1,7 @@
 -- Ways along the links, and the order that they make.
 use Rattle.std.specs.Prelude.{◌≡◌, ℕ, ◌<◌, ◌≤◌, List, length}
-use Rattle.std.proofs.Common.{subst, ⊎_elim, arith}
+use Rattle.std.proofs.Common.{subst, ⊎_elim}
+use Rattle.std.proofs.Math.Nat.{le_refl, le_trans, le_of_lt, le_antisymm, lt_of_le_of_lt}
 use Rattle.std.proofs.Math.Logic.{∥∥₁_elim, ∥∥₁_map₂}
 use Rattle.std.proofs.Math.Bridge.{le_prop}
 use Rattle.std.proofs.lemmas.List.{get_or_past}
@@ -17,8 +18,8 @@ joined (here l) s = s
 joined (up e r) s = up e (joined r s)
 
 pub steps_le : {links : List NumberSet} {a b : ℕ} → Falling links → Steps links a b → b ≤ a
-steps_le f (here l) = omega arith
-steps_le f (up e r) = let x = f.1 _ _ e in let y = steps_le f r in omega arith
+steps_le f (here l) = le_refl _
+steps_le f (up e r) = le_trans (steps_le f r) (le_of_lt (f.1 _ _ e))
 
 -- only a declared number has links
 pub link_declared : (links : List NumberSet) (a b : ℕ) → In b (links_of links a) → a < length links
@@ -40,10 +41,9 @@ pub below_le : (links : List NumberSet) → Falling links → (a b : ℕ) → Be
 below_le links f a b p = ∥∥₁_elim p le_prop (steps_le f)
 
 pub below_antisym : (links : List NumberSet) → Falling links → (a b : ℕ) → Below links a b → Below links b a → a ≡ b
-below_antisym links f a b p q = let x = below_le links f a b p in let y = below_le links f b a q in omega arith
+below_antisym links f a b p q = le_antisymm (below_le links f b a q) (below_le links f a b p)
 
 pub below_within : (links : List NumberSet) → Falling links → (a b : ℕ) → Below links a b → (a < length links) × (b < length links)
 below_within links f a b p =
     let l : a < length links = ∥∥₁_elim p le_prop steps_from in
-    let m = below_le links f a b p in
-    (l, omega arith)
+    (l, lt_of_le_of_lt (below_le links f a b p) l)
