@@ -8,7 +8,7 @@ use Rattle.std.proofs.lemmas.Bool.{cases_eq}
 use Rattle.sets.specs.declared.NumberSet.{NumberSet}
 use Rattle.hierarchy.specs.Order.{Below}
 use Rattle.hierarchy.specs.Paths.{steps_from}
-use Rattle.book.specs.Contents.{Contents}
+use Rattle.book.specs.Contents.{Records}
 use Rattle.book.specs.Declarations.{view_at}
 use Rattle.acceptance.specs.Orders.{type_links}
 use Rattle.acceptance.specs.declared.rejection.Rule.TheVariants.{Clashing}
@@ -19,22 +19,22 @@ use Rattle.acceptance.specs.Checks.{First, up_to, of_pair, FirstClash}
 use Rattle.acceptance.proofs.Firsts.{first_none, passes_each, first_each}
 
 -- no pair before (i, j) clashes
-abbrev pub Before : Contents → ℕ → ℕ → Type 0
+abbrev pub Before : Records → ℕ → ℕ → Type 0
 Before c i j = (a b : ℕ) → a < b → b < length c.views → (a < i) ⊎ ((a ≡ i) × (b < j)) → Clash c a b → ⊥
 
 -- no type below n is shared
-abbrev pub Unshared : Contents → ℕ → ℕ → ℕ → Type 0
+abbrev pub Unshared : Records → ℕ → ℕ → ℕ → Type 0
 Unshared c i j n = (t : ℕ) → t < n → Shared c i j t → ⊥
 
-pub before_none : (c : Contents) → Before c 0 0
+pub before_none : (c : Records) → Before c 0 0
 before_none c a b l m (inl e) = absurd (omega arith)
 before_none c a b l m (inr e) = absurd (let x = e.1 in omega arith)
 
-pub before_first : (c : Contents) (i j : ℕ) → j ≤ i + 1 → Before c i 0 → Before c i j
+pub before_first : (c : Records) (i j : ℕ) → j ≤ i + 1 → Before c i 0 → Before c i j
 before_first c i j k h a b l m (inl e) = h a b l m (inl e)
 before_first c i j k h a b l m (inr e) = absurd (let x = e.0 in let y = e.1 in omega arith)
 
-pub before_more : (c : Contents) (i j : ℕ) → Before c i j → (Clash c i j → ⊥) → Before c i (j + 1)
+pub before_more : (c : Records) (i j : ℕ) → Before c i j → (Clash c i j → ⊥) → Before c i (j + 1)
 before_more c i j h n a b l m (inl e) = h a b l m (inl e)
 before_more c i j h n a b l m (inr e) =
     ⊎_elim
@@ -42,7 +42,7 @@ before_more c i j h n a b l m (inr e) =
     (λ q. h a b l m (inr (e.0, (let y = e.1 in omega (arith, q)))))
     (cases_eq b j)
 
-pub before_next : (c : Contents) (i j : ℕ) → length c.views ≤ j → Before c i j → Before c (i + 1) 0
+pub before_next : (c : Records) (i j : ℕ) → length c.views ≤ j → Before c i j → Before c (i + 1) 0
 before_next c i j k h a b l m (inl e) =
     ⊎_elim
     (λ q. h a b l m (inr (q, omega arith)))
@@ -54,7 +54,7 @@ before_next c i j k h a b l m (inr e) = absurd (let y = e.1 in omega arith)
 declared_below : (links : List NumberSet) (a b : ℕ) → Below links a b → a < length links
 declared_below links a b p = ∥∥₁_elim p le_prop steps_from
 
-pub no_clash_unshared : (c : Contents) (i j n : ℕ) → length c.types ≤ n → Unshared c i j n → Clash c i j → ⊥
+pub no_clash_unshared : (c : Records) (i j n : ℕ) → length c.types ≤ n → Unshared c i j n → Clash c i j → ⊥
 no_clash_unshared c i j n l h k =
     ∥∥₁_elim k.1 ⊥_prop
     (λ s.
@@ -64,12 +64,12 @@ no_clash_unshared c i j n l h k =
 
 -- ---- the checks of pairs
 
-pub pairs_pass : (c : Contents) → FirstClash c None → First (up_to (length c.views) (λ i. up_to (length c.views) (of_pair c i))) None
+pub pairs_pass : (c : Records) → FirstClash c None → First (up_to (length c.views) (λ i. up_to (length c.views) (of_pair c i))) None
 pairs_pass c h =
     let n = length c.views in
     first_none (up_to n (λ i. up_to n (of_pair c i))) (passes_each n (λ i. up_to n (of_pair c i)) (λ i l. passes_each n (of_pair c i) (λ j m. (λ k. h i j k m, tt))))
 
-pub pairs_fail : (c : Contents) (i j : ℕ) (e : Rejection) → e ≡ breach Clashing (view_at c i) (Some j) → FirstClash c (Some (i, j))
+pub pairs_fail : (c : Records) (i j : ℕ) (e : Rejection) → e ≡ breach Clashing (view_at c i) (Some j) → FirstClash c (Some (i, j))
     → First (up_to (length c.views) (λ i. up_to (length c.views) (of_pair c i))) (Some e)
 pairs_fail c i j e q h =
     let n = length c.views in

@@ -2,7 +2,7 @@
 use Rattle.std.proofs.Common.{◌≡◌, ℕ, ◌<◌, List, length, Some, None, Ok, Err, Option, Result, sym, ap, ◌∙◌, subst, inl, inr, arith}
 use Rattle.sets.specs.Members.{In}
 use Rattle.book.specs.declared.refusal.Fault.{Fault}
-use Rattle.book.specs.Contents.{Contents}
+use Rattle.book.specs.Contents.{Records}
 use Rattle.book.specs.Declarations.{view_at, Declares}
 use Rattle.book.specs.Form.{reading}
 use Rattle.book.proofs.Declaring.{declares}
@@ -15,7 +15,7 @@ use Rattle.acceptance.proofs.Firsts.{Passes, first_none, none_first, passes_both
 
 -- ---- checks and rules
 
-pub passes_rules : (c : Contents) → Declares c → Passes (checks c) → Rules c
+pub passes_rules : (c : Records) → Declares c → Passes (checks c) → Rules c
 passes_rules c d p =
     let n = length c.views in
     let views = up_to n (of_view_and_bases c) in
@@ -36,7 +36,7 @@ passes_rules c d p =
       no_clash = λ i j l m. (each_passes n (of_pair c i) (each_passes n (λ i. up_to n (of_pair c i)) (passes_back views pairs p) i (omega arith)) j m).0 l;
     }
 
-pub rules_pass : (c : Contents) → Rules c → Passes (checks c)
+pub rules_pass : (c : Records) → Rules c → Passes (checks c)
 rules_pass c r =
     let n = length c.views in
     passes_both (up_to n (of_view_and_bases c)) (up_to n (λ i. up_to n (of_pair c i)))
@@ -54,13 +54,13 @@ accepted_by_rules bs c = (
 
 -- ---- one judgement
 
-same_contents : (o : Result Contents Fault) (c d : Contents) → o ≡ Ok c → o ≡ Ok d → c ≡ d
+same_contents : (o : Result Records Fault) (c d : Records) → o ≡ Ok c → o ≡ Ok d → c ≡ d
 same_contents o c d p q = cc
 
-same_fault : (o : Result Contents Fault) (f g : Fault) → o ≡ Err f → o ≡ Err g → f ≡ g
+same_fault : (o : Result Records Fault) (f g : Fault) → o ≡ Err f → o ≡ Err g → f ≡ g
 same_fault o f g p q = cc
 
-not_both : (o : Result Contents Fault) (c : Contents) (f : Fault) → o ≡ Ok c → o ≡ Err f → ⊥
+not_both : (o : Result Records Fault) (c : Records) (f : Fault) → o ≡ Ok c → o ≡ Err f → ⊥
 not_both o c f p q = let z : ◌≡◌ {A = ℕ} 0 1 = cc in omega arith
 
 none_not_some : (e : Rejection) → ◌≡◌ {A = Option Rejection} None (Some e) → ⊥
@@ -70,7 +70,7 @@ some_same : (d e : Rejection) → ◌≡◌ {A = Option Rejection} (Some d) (Som
 some_same d e q = cc
 
 -- what was accepted cannot be rejected
-accepted_not_rejected : (bs : List ℕ) (c : Contents) (e : Rejection) → Judged bs (Ok c) → Judged bs (Err e) → ⊥
+accepted_not_rejected : (bs : List ℕ) (c : Records) (e : Rejection) → Judged bs (Ok c) → Judged bs (Err e) → ⊥
 accepted_not_rejected bs c e p (inl q) = not_both (reading bs) c q.0 p.0 q.1
 accepted_not_rejected bs c e p (inr q) =
     let s = same_contents (reading bs) c q.0 p.0 q.1 in

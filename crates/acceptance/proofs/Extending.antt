@@ -11,7 +11,7 @@ use Rattle.hierarchy.specs.Order.{Below, links_of}
 use Rattle.hierarchy.specs.Paths.{below_refl, below_trans, link_declared}
 use Rattle.hierarchy.proofs.Paths.{below_ind}
 use Rattle.records.specs.declared.View.{View}
-use Rattle.book.specs.Contents.{Contents}
+use Rattle.book.specs.Contents.{Records}
 use Rattle.book.specs.Declarations.{no_view, view_at, Declares}
 use Rattle.views.specs.Some.{Exists}
 use Rattle.acceptance.specs.Orders.{type_links, role_links, group_links, view_links, OperationOf, RoleOf, MemberOf, SubjectRole}
@@ -73,12 +73,12 @@ no_right weak_denial o h = not_in_none o h
 no_right strong_denial o h = not_in_none o h
 
 -- what holds of declared views, and of one with no right, holds of every number
-of_every : (c : Contents) (P : View → Type 0) → ((i : ℕ) → i < length c.views → P (view_at c i)) → P no_view → (i : ℕ) → P (view_at c i)
+of_every : (c : Records) (P : View → Type 0) → ((i : ℕ) → i < length c.views → P (view_at c i)) → P no_view → (i : ℕ) → P (view_at c i)
 of_every c P each none i = ⊎_elim (each i) (λ l. subst P (sym (get_or_past c.views i no_view l)) none) (cases_lt i (length c.views))
 
 -- ---- the view order
 
-module _ (c : Contents) (d : Declares c) (r : Rules c) where
+module _ (c : Records) (d : Declares c) (r : Rules c) where
   -- a link of the view order is a base that the record names
   named : (a b : ℕ) → In b (links_of (view_links c) a) → In b (view_at c a).bases
   named a b h = subst (In b) (set_at (λ v. v.bases) no_view refl c.views a) h

@@ -3,11 +3,11 @@ use mathlib.Core.Logic.{∥∥₁_elim, ∥∥₁_prop}
 use mathlib.Core.HLevel.{⊥_prop}
 use native.Mathlib.Bridge.{le_prop}
 use native.Mathlib.Nat.{ℕ_set}
-use Rattle.book.specs.Contents.{Contents}
+use Rattle.book.specs.Contents.{Records}
 use Rattle.book.specs.Declarations.{Declares}
 use Rattle.acceptance.specs.Rules.{Rules, Accepted}
 
-module _ (c : Contents) (t : ∥ Accepted c ∥₁) where
+module _ (c : Records) (t : ∥ Accepted c ∥₁) where
   pub declared_of : Declares c
   declared_of = record {
     supertypes = λ i k h. ∥∥₁_elim t le_prop (λ a. a.0.supertypes i k h);

@@ -2,7 +2,7 @@
 use Rattle.std.specs.Prelude.{◌≡◌, ℕ, zero, suc, ◌<◌, ◌⊎◌, List, [], ◌∷◌, ◌++◌, length, Some, None, Option}
 use Rattle.sets.specs.Members.{In}
 use Rattle.records.specs.declared.View.{View}
-use Rattle.book.specs.Contents.{Contents}
+use Rattle.book.specs.Contents.{Records}
 use Rattle.book.specs.Declarations.{view_at}
 use Rattle.acceptance.specs.declared.rejection.Rule.TheVariants.{TwoRights, ForeignOperation, AssignableDenial, VirtualRight, ControlledType, RoleRestriction, Requirement, Redefinition, Clashing}
 use Rattle.acceptance.specs.declared.rejection.Rejection.{Rejection}
@@ -26,7 +26,7 @@ up_to zero f = []
 up_to (suc n) f = up_to n f ++ f n
 
 -- of a view by itself
-abbrev pub of_view : Contents → View → List Check
+abbrev pub of_view : Records → View → List Check
 of_view c v =
     (breach TwoRights v None unless OneRight v)
     ∷ (breach ForeignOperation v None unless OwnOperations c v)
@@ -35,7 +35,7 @@ of_view c v =
     ∷ []
 
 -- of a view against the view of number b, where it names that one as a base
-abbrev pub of_base : Contents → View → ℕ → List Check
+abbrev pub of_base : Records → View → ℕ → List Check
 of_base c v b =
     (breach ControlledType v (Some b) unless (In b v.bases → TypeFollows c v (view_at c b)))
     ∷ (breach RoleRestriction v (Some b) unless (In b v.bases → RestrictionFollows c v (view_at c b)))
@@ -44,21 +44,21 @@ of_base c v b =
     ∷ []
 
 -- of two views, the lower number first
-abbrev pub of_pair : Contents → ℕ → ℕ → List Check
+abbrev pub of_pair : Records → ℕ → ℕ → List Check
 of_pair c i j = (breach Clashing (view_at c i) (Some j) unless (i < j → Clash c i j → ⊥)) ∷ []
 
 -- of a view: by itself, and then against its bases
-abbrev pub of_view_and_bases : Contents → ℕ → List Check
+abbrev pub of_view_and_bases : Records → ℕ → List Check
 of_view_and_bases c i = of_view c (view_at c i) ++ up_to (length c.views) (of_base c (view_at c i))
 
 -- all checks of the records: view by view, and then pair by pair
-abbrev pub checks : Contents → List Check
+abbrev pub checks : Records → List Check
 checks c =
     up_to (length c.views) (of_view_and_bases c)
     ++ up_to (length c.views) (λ i. up_to (length c.views) (of_pair c i))
 
 -- the first pair of views that clash: the lowest first view, and with it the lowest second
-abbrev pub FirstClash : Contents → Option (ℕ × ℕ) → Type 0
+abbrev pub FirstClash : Records → Option (ℕ × ℕ) → Type 0
 FirstClash c None = (i j : ℕ) → i < j → j < length c.views → Clash c i j → ⊥
 FirstClash c (Some p) =
     (p.0 < p.1)

@@ -3,7 +3,7 @@ use Rattle.std.specs.Prelude.{ℕ, ◌<◌, length}
 use Rattle.sets.specs.Members.{Iff}
 use Rattle.hierarchy.specs.Order.{Below}
 use Rattle.records.specs.declared.View.{View}
-use Rattle.book.specs.Contents.{Contents}
+use Rattle.book.specs.Contents.{Records}
 use Rattle.book.specs.Declarations.{view_at}
 use Rattle.views.specs.Some.{Exists}
 use Rattle.acceptance.specs.Orders.{view_links, group_links, type_links, OperationOf, RoleOf, MemberOf, SubjectRole}
@@ -12,7 +12,7 @@ use Rattle.views.specs.ViewRules.{RequirementsFollow, RightsKept, NewPermitted, 
 use Rattle.acceptance.specs.Rules.{TypeFollows, RestrictionFollows, OwnOperations}
 
 -- a view and one that it extends at any distance
-pub record Extension (c : Contents) (v w : View) : Type 0 where
+pub record Extension (c : Records) (v w : View) : Type 0 where
   pub typed : TypeFollows c v w
   pub restricted : RestrictionFollows c v w
   pub required : RequirementsFollow v w
@@ -21,7 +21,7 @@ pub record Extension (c : Contents) (v w : View) : Type 0 where
   pub strong : (x : Right) (o : ℕ) → Strong x → Has w x o → Has v x o
 
 -- what holds of every accepted book
-pub record Kept (c : Contents) : Type 0 where
+pub record Kept (c : Records) : Type 0 where
   -- of every pair of the view order
   pub extension : (i j : ℕ) → Below (view_links c) i j → Extension c (view_at c i) (view_at c j)
   -- of every view

@@ -1,5 +1,4 @@
 //! The accepted book.
-ghost use Rattle.book.specs.Contents.{contents_of};
 ghost use Rattle.acceptance.specs.Rules.{Accepted};
 
 use book::contents::Records;
@@ -10,5 +9,5 @@ pub mod methods;
 #[derive(Drop)]
 pub struct Book {
     records: Records,
-    ghost accepted: { ∥ Accepted (contents_of records) ∥₁ },
+    ghost accepted: { ∥ Accepted records ∥₁ },
 }

@@ -1,7 +1,6 @@
 //! The rule for two views that are not related.
 ghost use Rattle.std.specs.Prelude.{◌≡◌, ◌<◌, true, length};
 ghost use Rattle.sets.specs.Members.{Iff};
-ghost use Rattle.book.specs.Contents.{contents_of};
 ghost use Rattle.hierarchy.specs.Order.{Means};
 ghost use Rattle.acceptance.specs.Orders.{type_links, view_links};
 ghost use Rattle.acceptance.specs.Rules.{Rivals, Shared};
@@ -14,10 +13,10 @@ use views::opposing::are_opposed;
 
 // Whether neither view extends the other, and they are opposed.
 fn are_rivals<H: Hierarchy>(records: &Records, views: &H, first: usize, second: usize) -> bool
-    requires views { Means (H.Hierarchy.pairs views.now) (view_links (contents_of records.now)) }
-    requires first { first < length (contents_of records.now).views }
-    requires second { second < length (contents_of records.now).views }
-    ensures { Iff (result ≡ true) (Rivals (contents_of records.now) first second) }
+    requires views { Means (H.Hierarchy.pairs views.now) (view_links records.now) }
+    requires first { first < length records.now.views }
+    requires second { second < length records.now.views }
+    ensures { Iff (result ≡ true) (Rivals records.now first second) }
 {
     if views.at_or_below(first, second) {
         return false;
@@ -36,10 +35,10 @@ fn is_shared<H: Hierarchy>(
     first: usize,
     second: usize,
 ) -> bool
-    requires types { Means (H.Hierarchy.pairs types.now) (type_links (contents_of records.now)) }
-    requires first { first < length (contents_of records.now).views }
-    requires second { second < length (contents_of records.now).views }
-    ensures { Iff (result ≡ true) (Shared (contents_of records.now) first second number) }
+    requires types { Means (H.Hierarchy.pairs types.now) (type_links records.now) }
+    requires first { first < length records.now.views }
+    requires second { second < length records.now.views }
+    ensures { Iff (result ≡ true) (Shared records.now first second number) }
 {
     types.at_or_below(number, view_of(records, first).controlled as usize)
         && types.at_or_below(number, view_of(records, second).controlled as usize)
@@ -51,9 +50,9 @@ pub(crate) fn first_clash<H: Hierarchy>(
     types: &H,
     views: &H,
 ) -> Option<(usize, usize)>
-    requires types { Means (H.Hierarchy.pairs types.now) (type_links (contents_of records.now)) }
-    requires views { Means (H.Hierarchy.pairs views.now) (view_links (contents_of records.now)) }
-    ensures { FirstClash (contents_of records.now) result }
+    requires types { Means (H.Hierarchy.pairs types.now) (type_links records.now) }
+    requires views { Means (H.Hierarchy.pairs views.now) (view_links records.now) }
+    ensures { FirstClash records.now result }
 {
     let count = records.views.len();
     let kinds = records.types.len();

@@ -2,7 +2,6 @@
 ghost use Rattle.std.specs.Prelude.{◌≡◌, ◌<◌, true, length};
 ghost use Rattle.sets.specs.Members.{Iff};
 ghost use Rattle.hierarchy.specs.Order.{Means};
-ghost use Rattle.book.specs.Contents.{contents_of};
 ghost use Rattle.acceptance.specs.Orders.{type_links, role_links};
 ghost use Rattle.acceptance.specs.Rules.{RestrictionFollows};
 ghost use Rattle.acceptance.specs.Checks.{First, of_base, up_to};
@@ -18,8 +17,8 @@ use views::rights::has_member;
 
 // Whether the restriction follows that of the base.
 fn restriction_follows<H: Hierarchy>(records: &Records, roles: &H, view: &View, base: &View) -> bool
-    requires { Means (H.Hierarchy.pairs roles.now) (role_links (contents_of records.now)) }
-    ensures { Iff (result ≡ true) (RestrictionFollows (contents_of records.now) view.now base.now) }
+    requires { Means (H.Hierarchy.pairs roles.now) (role_links records.now) }
+    ensures { Iff (result ≡ true) (RestrictionFollows records.now view.now base.now) }
 {
     if !has_member(base.restriction) {
         return true;
@@ -35,10 +34,10 @@ fn base_breach<H: Hierarchy>(
     view: &View,
     number: usize,
 ) -> Option<Rejection>
-    requires types { Means (H.Hierarchy.pairs types.now) (type_links (contents_of records.now)) }
-    requires roles { Means (H.Hierarchy.pairs roles.now) (role_links (contents_of records.now)) }
-    requires there { number < length (contents_of records.now).views }
-    ensures { First (of_base (contents_of records.now) view.now number) result }
+    requires types { Means (H.Hierarchy.pairs types.now) (type_links records.now) }
+    requires roles { Means (H.Hierarchy.pairs roles.now) (role_links records.now) }
+    requires there { number < length records.now.views }
+    ensures { First (of_base records.now view.now number) result }
 {
     if !view.bases.contains(number) {
         return None;
@@ -66,9 +65,9 @@ pub(crate) fn bases_breach<H: Hierarchy>(
     roles: &H,
     view: &View,
 ) -> Option<Rejection>
-    requires types { Means (H.Hierarchy.pairs types.now) (type_links (contents_of records.now)) }
-    requires roles { Means (H.Hierarchy.pairs roles.now) (role_links (contents_of records.now)) }
-    ensures { First (up_to (length (contents_of records.now).views) (of_base (contents_of records.now) view.now)) result }
+    requires types { Means (H.Hierarchy.pairs types.now) (type_links records.now) }
+    requires roles { Means (H.Hierarchy.pairs roles.now) (role_links records.now) }
+    ensures { First (up_to (length records.now.views) (of_base records.now view.now)) result }
 {
     for number in 0..records.views.len() {
         if let Some(rejection) = base_breach(records, types, roles, view, number) {

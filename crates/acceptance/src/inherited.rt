@@ -1,7 +1,6 @@
 //! What types, groups and subjects have by what lies above them.
 ghost use Rattle.std.specs.Prelude.{ℕ};
 ghost use Rattle.sets.specs.Members.{In, Iff};
-ghost use Rattle.book.specs.Contents.{contents_of};
 ghost use Rattle.hierarchy.specs.Order.{Means};
 ghost use Rattle.acceptance.specs.Orders.{type_links, group_links, OperationOf, RoleOf, SubjectRole};
 
@@ -12,21 +11,21 @@ use sets::NumberSet;
 
 /// The operations of a type, under the order of the records' types.
 pub fn type_operations<H: Hierarchy>(records: &Records, types: &H, number: usize) -> NumberSet
-    ensures { Means (H.Hierarchy.pairs types.now) (type_links (contents_of records.now)) → (o : ℕ) → Iff (In o result) (OperationOf (contents_of records.now) number o) }
+    ensures { Means (H.Hierarchy.pairs types.now) (type_links records.now) → (o : ℕ) → Iff (In o result) (OperationOf records.now number o) }
 {
     collect(types, records.types.as_slice(), number)
 }
 
 /// The roles of a group, under the order of the records' groups.
 pub fn group_roles<H: Hierarchy>(records: &Records, groups: &H, number: usize) -> NumberSet
-    ensures { Means (H.Hierarchy.pairs groups.now) (group_links (contents_of records.now)) → (k : ℕ) → Iff (In k result) (RoleOf (contents_of records.now) number k) }
+    ensures { Means (H.Hierarchy.pairs groups.now) (group_links records.now) → (k : ℕ) → Iff (In k result) (RoleOf records.now number k) }
 {
     collect(groups, records.groups.as_slice(), number)
 }
 
 /// The roles of a subject: those of its groups.
 pub fn subject_roles<H: Hierarchy>(records: &Records, groups: &H, number: usize) -> NumberSet
-    ensures { Means (H.Hierarchy.pairs groups.now) (group_links (contents_of records.now)) → (k : ℕ) → Iff (In k result) (SubjectRole (contents_of records.now) number k) }
+    ensures { Means (H.Hierarchy.pairs groups.now) (group_links records.now) → (k : ℕ) → Iff (In k result) (SubjectRole records.now number k) }
 {
     let mut roles = NumberSet::empty();
     let Some(subject) = records.subjects.get(number) else {

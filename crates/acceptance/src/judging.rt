@@ -1,6 +1,5 @@
 //! Judging the records of a book.
 ghost use Rattle.std.specs.Prelude.{◌<◌, length};
-ghost use Rattle.book.specs.Contents.{contents_of};
 ghost use Rattle.book.specs.Declarations.{Declares};
 ghost use Rattle.hierarchy.specs.Order.{Means};
 ghost use Rattle.acceptance.specs.Orders.{type_links, role_links, view_links};
@@ -21,10 +20,10 @@ fn view_breach<H: Hierarchy>(
     roles: &H,
     number: usize,
 ) -> Option<Rejection>
-    requires types { Means (H.Hierarchy.pairs types.now) (type_links (contents_of records.now)) }
-    requires roles { Means (H.Hierarchy.pairs roles.now) (role_links (contents_of records.now)) }
-    requires there { number < length (contents_of records.now).views }
-    ensures { First (of_view_and_bases (contents_of records.now) number) result }
+    requires types { Means (H.Hierarchy.pairs types.now) (type_links records.now) }
+    requires roles { Means (H.Hierarchy.pairs roles.now) (role_links records.now) }
+    requires there { number < length records.now.views }
+    ensures { First (of_view_and_bases records.now number) result }
 {
     let view = view_of(records, number);
     if let Some(rejection) = own_breach(records, types, &view) {
@@ -35,9 +34,9 @@ fn view_breach<H: Hierarchy>(
 
 // The first rule that a view breaks, the views in rising order.
 fn views_breach<H: Hierarchy>(records: &Records, types: &H, roles: &H) -> Option<Rejection>
-    requires types { Means (H.Hierarchy.pairs types.now) (type_links (contents_of records.now)) }
-    requires roles { Means (H.Hierarchy.pairs roles.now) (role_links (contents_of records.now)) }
-    ensures { First (up_to (length (contents_of records.now).views) (of_view_and_bases (contents_of records.now))) result }
+    requires types { Means (H.Hierarchy.pairs types.now) (type_links records.now) }
+    requires roles { Means (H.Hierarchy.pairs roles.now) (role_links records.now) }
+    ensures { First (up_to (length records.now.views) (of_view_and_bases records.now)) result }
 {
     for number in 0..records.views.len() {
         if let Some(rejection) = view_breach(records, types, roles, number) {
@@ -49,9 +48,9 @@ fn views_breach<H: Hierarchy>(records: &Records, types: &H, roles: &H) -> Option
 
 // The first two views that clash.
 fn pairs_breach<H: Hierarchy>(records: &Records, types: &H, views: &H) -> Option<Rejection>
-    requires types { Means (H.Hierarchy.pairs types.now) (type_links (contents_of records.now)) }
-    requires views { Means (H.Hierarchy.pairs views.now) (view_links (contents_of records.now)) }
-    ensures { First (up_to (length (contents_of records.now).views) (λ i. up_to (length (contents_of records.now).views) (of_pair (contents_of records.now) i))) result }
+    requires types { Means (H.Hierarchy.pairs types.now) (type_links records.now) }
+    requires views { Means (H.Hierarchy.pairs views.now) (view_links records.now) }
+    ensures { First (up_to (length records.now.views) (λ i. up_to (length records.now.views) (of_pair records.now i))) result }
 {
     let Some((first, second)) = first_clash(records, types, views) else {
         return None;
@@ -62,8 +61,8 @@ fn pairs_breach<H: Hierarchy>(records: &Records, types: &H, views: &H) -> Option
 
 /// The first rule that the records break.
 pub(crate) fn first_breach<H: Hierarchy + Drop>(records: &Records) -> Option<Rejection>
-    requires { Declares (contents_of records.now) }
-    ensures { First (checks (contents_of records.now)) result }
+    requires { Declares records.now }
+    ensures { First (checks records.now) result }
 {
     let types: H = falling_order(records.types.as_slice());
     let roles: H = falling_order(records.roles.as_slice());

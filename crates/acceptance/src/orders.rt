@@ -1,7 +1,6 @@
 //! The views and the orders of a book's records.
 ghost use Rattle.std.specs.Prelude.{◌≡◌, ◌<◌, map, length};
 ghost use Rattle.hierarchy.specs.Order.{Falling, Means};
-ghost use Rattle.book.specs.Contents.{contents_of};
 ghost use Rattle.book.specs.Declarations.{view_at};
 
 use book::contents::Records;
@@ -11,8 +10,8 @@ use records::View;
 
 /// The view of a number that is declared.
 pub(crate) fn view_of(records: &Records, number: usize) -> View
-    requires { number < length (contents_of records.now).views }
-    ensures { result ≡ view_at (contents_of records.now) number }
+    requires { number < length records.now.views }
+    ensures { result ≡ view_at records.now number }
 {
     match records.views.get(number) {
         Some(view) => view,

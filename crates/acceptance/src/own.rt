@@ -1,7 +1,6 @@
 //! The rules for a view by itself.
 ghost use Rattle.std.specs.Prelude.{◌≡◌, true};
 ghost use Rattle.sets.specs.Members.{Iff};
-ghost use Rattle.book.specs.Contents.{contents_of};
 ghost use Rattle.hierarchy.specs.Order.{Means};
 ghost use Rattle.acceptance.specs.Orders.{type_links};
 ghost use Rattle.acceptance.specs.Rules.{OwnOperations};
@@ -17,8 +16,8 @@ use views::single::{has_one_right, keeps_assignable, keeps_virtual};
 
 // Whether rights are for operations of the controlled type only.
 fn has_own_operations<H: Hierarchy>(records: &Records, types: &H, view: &View) -> bool
-    requires { Means (H.Hierarchy.pairs types.now) (type_links (contents_of records.now)) }
-    ensures { Iff (result ≡ true) (OwnOperations (contents_of records.now) view.now) }
+    requires { Means (H.Hierarchy.pairs types.now) (type_links records.now) }
+    ensures { Iff (result ≡ true) (OwnOperations records.now view.now) }
 {
     rights(view).is_subset(type_operations(records, types, view.controlled as usize))
 }
@@ -29,8 +28,8 @@ pub(crate) fn own_breach<H: Hierarchy>(
     types: &H,
     view: &View,
 ) -> Option<Rejection>
-    requires { Means (H.Hierarchy.pairs types.now) (type_links (contents_of records.now)) }
-    ensures { First (of_view (contents_of records.now) view.now) result }
+    requires { Means (H.Hierarchy.pairs types.now) (type_links records.now) }
+    ensures { First (of_view records.now view.now) result }
 {
     if !has_one_right(view) {
         return Some(Rejection::of_view(Rule::TwoRights, view));

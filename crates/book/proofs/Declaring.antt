@@ -12,7 +12,7 @@ use Rattle.book.specs.declared.phase.Phase.TheVariants.{Types, Roles, Groups, Vi
 use Rattle.book.specs.declared.refusal.Refusal.{Refusal}
 use Rattle.book.specs.declared.refusal.Fault.{Fault}
 use Rattle.book.specs.Layout.{Field, names, operations, controlled, modifiers, width, layout, terms_fields, rights_fields}
-use Rattle.book.specs.Contents.{Record, AType, ARole, AGroup, AView, ASubject, Contents, nothing, count, filed, filed_all}
+use Rattle.book.specs.Contents.{Record, AType, ARole, AGroup, AView, ASubject, Records, nothing, count, filed, filed_all}
 use Rattle.book.specs.Form.{marked, piece, pieces, behind, wrong, wrong_next, wrong_names, wrong_controlled, or_else, first_wrong, Cut, whole, broken, cut, record_from, State, start, advanced, after_fields, after_cut, records_in, form, filing, reading}
 use Rattle.book.specs.Declarations.{Declares, no_view}
 use Rattle.book.proofs.Fieldwise.{Needed}
@@ -23,7 +23,7 @@ use Rattle.book.proofs.Encoded.{not_ok, prepended_ok, opens}
 -- ---- the fields of one record
 
 -- what a record names is declared before it
-abbrev Names : Contents → Record → Type 0
+abbrev Names : Records → Record → Type 0
 Names c (AType r) = (k : ℕ) → In k r.supertypes → k < length c.types
 Names c (ARole r) = (k : ℕ) → In k r.superroles → k < length c.roles
 Names c (AGroup r) = ((k : ℕ) → In k r.supergroups → k < length c.groups) × ((k : ℕ) → In k r.roles → k < length c.roles)
@@ -53,12 +53,12 @@ controlled_by n true bs e l = ltb-true _ _ (below_none _ e)
 controlled_by n false bs e l = absurd (omega arith)
 
 -- nothing is wrong with the first field, and nothing with the others
-none_wrong : (c : Contents) (f : Field) (L : List Field) (m : ℕ) (bs : List ℕ) → first_wrong c (f ∷ L) m bs ≡ None
+none_wrong : (c : Records) (f : Field) (L : List Field) (m : ℕ) (bs : List ℕ) → first_wrong c (f ∷ L) m bs ≡ None
     → (wrong_next (wrong c f) (width f) m bs ≡ None) × (first_wrong c L (m / 2) (behind (width f) m bs) ≡ None)
 none_wrong c f L m bs e = neither (wrong_next (wrong c f) (width f) m bs) (first_wrong c L (m / 2) (behind (width f) m bs)) e
 
 -- fields that pass make a record that names what is declared
-names_from : (c : Contents) (p : Phase) (at m : ℕ) (bs : List ℕ) → first_wrong c (layout p) m bs ≡ None → Needed p (pieces (layout p) m bs)
+names_from : (c : Records) (p : Phase) (at m : ℕ) (bs : List ℕ) → first_wrong c (layout p) m bs ≡ None → Needed p (pieces (layout p) m bs)
     → Names c (record_from p at (pieces (layout p) m bs))
 names_from c Types at m bs e n = named (length c.types) m bs (none_wrong c (names Types) (operations ∷ []) m bs e).0
 names_from c Roles at m bs e n = named (length c.roles) m bs (none_wrong c (names Roles) [] m bs e).0
@@ -100,7 +100,7 @@ sets_push : {A : Type 0} (of : A → NumberSet) (n : ℕ → ℕ) (d : A) (xs : 
 sets_push of n d xs r e each one =
     each_push (λ i x. (k : ℕ) → In k (of x) → k < n i) d xs r (λ i l. each i) one (λ i l k h. absurd (not_in_none k (subst (In k) e h)))
 
-filed_declares : (c : Contents) (r : Record) → Declares c → Names c r → Declares (filed c r)
+filed_declares : (c : Records) (r : Record) → Declares c → Names c r → Declares (filed c r)
 filed_declares c (AType r) d n = record {
   supertypes = sets_push (λ t. t.supertypes) (λ i. i) _ c.types r refl d.supertypes n;
   superroles = d.superroles;
@@ -201,7 +201,7 @@ module _ (n : ℕ) (later : DeclaredBy n) (s : State) (bs : List ℕ) (rs : List
   record_declared (broken r) q h = absurd (not_ok _ rs h)
   record_declared (whole p size) q h = fields_declared p size (cut_whole s.phase (λ p. count p s.contents) bs p size q) _ refl h
 
-none_read : (c : Contents) (rs : List Record) → Declares c → ◌≡◌ {A = Result (List Record) Fault} (Ok []) (Ok rs) → Declares (filed_all c rs)
+none_read : (c : Records) (rs : List Record) → Declares c → ◌≡◌ {A = Result (List Record) Fault} (Ok []) (Ok rs) → Declares (filed_all c rs)
 none_read c rs d e = subst (λ rs. Declares (filed_all c rs)) (let f : [] ≡ rs = cc in f) d
 
 declared_in : (n : ℕ) → DeclaredBy n
@@ -209,7 +209,7 @@ declared_in zero s bs rs d e = none_read s.contents rs d e
 declared_in (suc n) s [] rs d e = none_read s.contents rs d e
 declared_in (suc n) s (b ∷ bs) rs d e = record_declared n (declared_in n) s (b ∷ bs) rs d _ refl e
 
-declared_of : (bs : List ℕ) (c : Contents) (o : Result (List Record) Fault) → form bs ≡ o → filing nothing o ≡ Ok c → Declares c
+declared_of : (bs : List ℕ) (c : Records) (o : Result (List Record) Fault) → form bs ≡ o → filing nothing o ≡ Ok c → Declares c
 declared_of bs c (Err f) q e = absurd (let z : ◌≡◌ {A = ℕ} 0 1 = cc in omega arith)
 declared_of bs c (Ok rs) q e =
     let n = length bs in
@@ -218,5 +218,5 @@ declared_of bs c (Ok rs) q e =
     subst Declares same (declared_in n start (drop 1 bs) rs nothing_declares t.2)
 
 -- a book that is read names only what it declares
-pub declares : (bs : List ℕ) (c : Contents) → reading bs ≡ Ok c → Declares c
+pub declares : (bs : List ℕ) (c : Records) → reading bs ≡ Ok c → Declares c
 declares bs c e = declared_of bs c (form bs) refl e

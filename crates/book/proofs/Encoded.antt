@@ -10,7 +10,7 @@ use Rattle.book.specs.declared.refusal.Refusal.{Refusal}
 use Rattle.book.specs.declared.refusal.Refusal.TheVariants.{Size, Version}
 use Rattle.book.specs.declared.refusal.Fault.{Fault}
 use Rattle.book.specs.Layout.{kind_of, limit, layout, needs_first}
-use Rattle.book.specs.Contents.{Record, AType, ARole, AGroup, AView, ASubject, Contents, nothing, count, phase_of, filed_all}
+use Rattle.book.specs.Contents.{Record, AType, ARole, AGroup, AView, ASubject, Records, nothing, count, phase_of, filed_all}
 use Rattle.book.specs.Encoding.{fields_of, map_of, together, encode_record, encode}
 use Rattle.book.specs.Form.{marked, span, pieces, first_wrong, Cut, whole, broken, cut, record_from, State, start, advanced, prepended, after_fields, after_cut, records_in, after_opening, form, filing, reading}
 use Rattle.book.specs.FormRules.{Next, Ordered, Formed}
@@ -212,11 +212,11 @@ under_each : (bs : List ℕ) → ((i : ℕ) → get_or bs i 0 < 256) → AllBelo
 under_each [] h = tt
 under_each (b ∷ bs) h = (h 0, under_each bs (λ i. h (suc i)))
 
-exactly_by : (bs : List ℕ) → AllBelowBase 256 bs → (x : Result (List Record) Fault) → form bs ≡ x → (o : Result Contents Fault) → filing nothing x ≡ o → Exactly bs o
+exactly_by : (bs : List ℕ) → AllBelowBase 256 bs → (x : Result (List Record) Fault) → form bs ≡ x → (o : Result Records Fault) → filing nothing x ≡ o → Exactly bs o
 exactly_by bs u (Ok rs) e (Ok c) q = let p = passed bs u rs e in let s : filed_all nothing rs ≡ c = cc in (rs, p.0, p.1, s)
 exactly_by bs u (Ok rs) e (Err f) q = absurd (let z : ◌≡◌ {A = ℕ} 0 1 = cc in omega arith)
 exactly_by bs u (Err g) e (Ok c) q = absurd (let z : ◌≡◌ {A = ℕ} 0 1 = cc in omega arith)
 exactly_by bs u (Err g) e (Err f) q = λ rs s k. not_ok g rs (sym e ∙ (passes_as_encoded bs u rs).1 (s, k))
 
-pub exactly : (bs : List ℕ) → ((i : ℕ) → Fits w8 (get_or bs i 0)) → (o : Result Contents Fault) → reading bs ≡ o → Exactly bs o
+pub exactly : (bs : List ℕ) → ((i : ℕ) → Fits w8 (get_or bs i 0)) → (o : Result Records Fault) → reading bs ≡ o → Exactly bs o
 exactly bs h o e = exactly_by bs (under_each bs (λ i. (h i).fits)) (form bs) refl o e

@@ -4,7 +4,7 @@ use Rattle.std.specs.Int.Digits.{AllBelowBase}
 use Rattle.book.specs.declared.phase.Phase.{Phase}
 use Rattle.book.specs.declared.phase.Phase.TheVariants.{Types, Roles, Groups, Views, Subjects}
 use Rattle.book.specs.Layout.{layout, needs_first}
-use Rattle.book.specs.Contents.{Record, AType, ARole, AGroup, AView, ASubject, Contents, phase_of, place_of}
+use Rattle.book.specs.Contents.{Record, AType, ARole, AGroup, AView, ASubject, Records, phase_of, place_of}
 use Rattle.book.specs.Encoding.{fields_of, encode_record}
 use Rattle.book.specs.Form.{record_from}
 use Rattle.book.specs.FormRules.{Ranged}
@@ -30,7 +30,7 @@ place_from Views at fs = refl
 place_from Subjects at fs = refl
 
 -- fine fields make a record in range that is written as they are
-pub from_fields : (c : Contents) (p : Phase) (at : ℕ) (fs : List (List ℕ)) → Fields (Fine c) (layout p) fs → Needed p fs
+pub from_fields : (c : Records) (p : Phase) (at : ℕ) (fs : List (List ℕ)) → Fields (Fine c) (layout p) fs → Needed p fs
     → (fields_of (record_from p at fs) ≡ fs) × Ranged c (record_from p at fs)
 from_fields c Types at [] g n = absurd (g)
 from_fields c Types at (b0 ∷ []) g n = absurd g.1
@@ -78,7 +78,7 @@ from_fields c Subjects at (b0 ∷ []) g n =
 from_fields c Subjects at (b0 ∷ b1 ∷ fs) g n = absurd g.1
 
 -- a record in range has fine fields, which make it again
-pub to_fields : (c : Contents) (r : Record) → Ranged c r → AllBelowBase 256 (encode_record r)
+pub to_fields : (c : Records) (r : Record) → Ranged c r → AllBelowBase 256 (encode_record r)
     → Fields (Fine c) (layout (phase_of r)) (fields_of r) × (record_from (phase_of r) (place_of r) (fields_of r) ≡ r)
 to_fields c (AType r) d u = (
   (names_stood c Types r.supertypes d.0, (operations_stood c r.operations d.1, tt)),

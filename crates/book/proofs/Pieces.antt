@@ -6,7 +6,7 @@ use Rattle.std.proofs.lemmas.List.{append_assoc, take_at, drop_at, length-append
 use Rattle.std.proofs.lemmas.Bool.{eq-eqb, ne_eqb, eqb-true, eqb-false, cases_Bool}
 use Rattle.book.specs.declared.refusal.Refusal.{Refusal}
 use Rattle.book.specs.Layout.{Field, names, operations, controlled, modifiers, denials, width}
-use Rattle.book.specs.Contents.{Contents}
+use Rattle.book.specs.Contents.{Records}
 use Rattle.book.specs.Encoding.{map_of, together}
 use Rattle.book.specs.Form.{marked, span, pieces, wrong, or_else, first_wrong}
 
@@ -18,7 +18,7 @@ Fields Q (f ∷ L) [] = ⊥
 Fields Q (f ∷ L) (b ∷ fs) = ((b ≡ []) ⊎ ((length b ≡ width f) × Q f b)) × Fields Q L fs
 
 -- the bytes of a field that is present are bytes, and nothing is wrong with them
-abbrev pub Fine : Contents → Field → List ℕ → Type 0
+abbrev pub Fine : Records → Field → List ℕ → Type 0
 Fine c f b = AllBelowBase 256 b × (wrong c f b ≡ None)
 
 width_pos : (f : Field) → 0 < width f
@@ -52,7 +52,7 @@ module _ (f : Field) (L : List Field) (m : ℕ) (bs : List ℕ) where
   pub span_at : (t : Bool) → marked m ≡ t → span (f ∷ L) m ≡ cond t (width f) 0 + span L (m / 2)
   span_at t e = ap (λ t. cond t (width f) 0 + span L (m / 2)) e
 
-  pub first_at : (c : Contents) (t : Bool) → marked m ≡ t
+  pub first_at : (c : Records) (t : Bool) → marked m ≡ t
       → first_wrong c (f ∷ L) m bs ≡ or_else (cond t (wrong c f (take (width f) bs)) None) (first_wrong c L (m / 2) (cond t (drop (width f) bs) bs))
   first_at c t e = ap (λ t. or_else (cond t (wrong c f (take (width f) bs)) None) (first_wrong c L (m / 2) (cond t (drop (width f) bs) bs))) e
 
@@ -113,7 +113,7 @@ module _ (Q : Field → List ℕ → Type 0) where
       ∙ ap (λ r. (x ∷ b) ∷ r) (pieces_back L fs more g.1)
 
 -- and nothing is wrong with fields of which each is fine
-pub none_wrong : (c : Contents) (L : List Field) (fs : List (List ℕ)) (more : List ℕ) → Fields (Fine c) L fs → first_wrong c L (map_of fs) (together fs ++ more) ≡ None
+pub none_wrong : (c : Records) (L : List Field) (fs : List (List ℕ)) (more : List ℕ) → Fields (Fine c) L fs → first_wrong c L (map_of fs) (together fs ++ more) ≡ None
 none_wrong c [] [] more g = refl
 none_wrong c [] (b ∷ fs) more g = absurd g
 none_wrong c (f ∷ L) [] more g = absurd g
@@ -139,7 +139,7 @@ or_else_none (Some r) p e = absurd (let z : ◌≡◌ {A = ℕ} 0 1 = cc in omeg
 or_else_none None p e = (refl, e)
 
 -- fields of which nothing is wrong are fine
-pub fine_pieces : (c : Contents) (L : List Field) (m : ℕ) (bs : List ℕ) → span L m ≤ length bs → AllBelowBase 256 bs → first_wrong c L m bs ≡ None
+pub fine_pieces : (c : Records) (L : List Field) (m : ℕ) (bs : List ℕ) → span L m ≤ length bs → AllBelowBase 256 bs → first_wrong c L m bs ≡ None
     → Fields (Fine c) L (pieces L m bs)
 fine_pieces c [] m bs l u n = tt
 fine_pieces c (f ∷ L) m bs l u n =

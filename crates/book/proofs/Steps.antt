@@ -8,7 +8,7 @@ use Rattle.book.specs.declared.refusal.Refusal.{Refusal}
 use Rattle.book.specs.declared.refusal.Fault.{Fault}
 use Rattle.book.specs.declared.position.Position.{Position}
 use Rattle.book.specs.Layout.{Field, width, layout, limit, kind_of}
-use Rattle.book.specs.Contents.{Record, Contents, nothing, count, filed}
+use Rattle.book.specs.Contents.{Record, Records, nothing, count, filed}
 use Rattle.book.specs.Form.{marked, span, pieces, wrong, or_else, first_wrong, cut, record_from, State, prepended, after_cut, after_fields, records_in, filing, opening, after_opening, reading}
 use Rattle.book.specs.FormLaws.{numbered}
 use Rattle.book.specs.Reading.{Handed, Hands, passed}
@@ -20,7 +20,7 @@ use Rattle.book.proofs.Tracking.{Tracks, tracks_none, tracks_more, cut_tracks}
 -- ---- fields lie inside their part
 
 -- what a part has of fields that need no more bytes than it has
-inside : (c : Contents) (L : List Field) (m k : ℕ) (bs : List ℕ) → span L m ≤ k
+inside : (c : Records) (L : List Field) (m k : ℕ) (bs : List ℕ) → span L m ≤ k
     → (first_wrong c L m (take k bs) ≡ first_wrong c L m bs) × (pieces L m (take k bs) ≡ pieces L m bs)
 inside c [] m k bs l = (refl, refl)
 inside c (f ∷ L) m k bs l =
@@ -54,22 +54,22 @@ opened_up (suc n) s [] l h = absurd (omega arith)
 opened_up (suc n) s (b ∷ bs) l h = (n, h, refl)
 
 -- filing what comes first is filing it before the rest
-filing_first : (c : Contents) (r : Record) (o : Result (List Record) Fault) → filing c (prepended r o) ≡ filing (filed c r) o
+filing_first : (c : Records) (r : Record) (o : Result (List Record) Fault) → filing c (prepended r o) ≡ filing (filed c r) o
 filing_first c r (Ok rs) = refl
 filing_first c r (Err f) = refl
 
 -- how far a reading has come at a position, with these contents
-abbrev pub standing : Position → Contents → State
+abbrev pub standing : Position → Records → State
 standing s c = record { phase = s.phase; place = s.at; contents = c }
 
 -- what is left gives the result
-pub record Going (book : List ℕ) (s : Position) (c : Contents) (result : Result Contents Fault) : Type 0 where
+pub record Going (book : List ℕ) (s : Position) (c : Records) (result : Result Records Fault) : Type 0 where
   pub turns : ℕ
   pub enough : length (drop s.at book) ≤ turns
   pub result_is : filing c (records_in turns (standing s c) (drop s.at book)) ≡ result
   pub tracks : Tracks s.phase s.number c
 
-module _ (book : List ℕ) (s : Position) (c : Contents) (result : Result Contents Fault) (g : Going book s c result) where
+module _ (book : List ℕ) (s : Position) (c : Records) (result : Result Records Fault) (g : Going book s c result) where
   -- at the end
   pub ends : length book ≤ s.at → result ≡ Ok c
   ends l = sym g.result_is ∙ ap (λ bs. filing c (records_in g.turns (standing s c) bs)) (drop_all s.at book l) ∙ none g.turns
@@ -185,5 +185,5 @@ begins (b ∷ bs) e =
     (record { turns = length (b ∷ bs); enough = omega arith; result_is = ap (λ o. filing nothing (after_opening o (b ∷ bs))) (sym e); tracks = tracks_none })
 
 -- a reading that stands where another does
-pub going_there : (book : List ℕ) (result : Result Contents Fault) (s t : Position) (c d : Contents) → s ≡ t → c ≡ d → Going book s c result → Going book t d result
+pub going_there : (book : List ℕ) (result : Result Records Fault) (s t : Position) (c d : Records) → s ≡ t → c ≡ d → Going book s c result → Going book t d result
 going_there book result s t c d e f x = subst (λ s. Going book s d result) e (subst (λ c. Going book s c result) f x)

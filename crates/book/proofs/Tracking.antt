@@ -5,13 +5,13 @@ use Rattle.std.proofs.lemmas.Bool.{eq-eqb, ne_eqb, cases_eq}
 use Rattle.book.specs.declared.phase.Phase.{Phase}
 use Rattle.book.specs.declared.phase.Phase.TheVariants.{Types, Roles, Groups, Views, Subjects}
 use Rattle.book.specs.Layout.{kind_of, kind_named}
-use Rattle.book.specs.Contents.{Record, AType, ARole, AGroup, AView, ASubject, Contents, nothing, count, filed, phase_of}
+use Rattle.book.specs.Contents.{Record, AType, ARole, AGroup, AView, ASubject, Records, nothing, count, filed, phase_of}
 use Rattle.book.specs.Form.{opened, cut_as, cut, extent}
 use Rattle.book.specs.FormLaws.{numbered}
 use Rattle.book.proofs.Cuts.{kind_named_lem, opened_kind}
 
 -- after n records of kind p, the last, and with these contents, no later kind has any
-abbrev pub Tracks : Phase → ℕ → Contents → Type 0
+abbrev pub Tracks : Phase → ℕ → Records → Type 0
 Tracks p n c = (q : Phase) → kind_of p ≤ kind_of q → numbered p n q ≡ count q c
 
 pub tracks_none : Tracks Types 0 nothing
@@ -24,14 +24,14 @@ tracks_none Subjects l = refl
 same_phase : (p q : Phase) → kind_of p ≡ kind_of q → p ≡ q
 same_phase p q e = let a = kind_named_lem p in let b = kind_named_lem q in let c = ap kind_named e in let s : Some p ≡ Some q = sym a ∙ c ∙ b in cc
 
-count_filed : (c : Contents) (r : Record) → count (phase_of r) (filed c r) ≡ count (phase_of r) c + 1
+count_filed : (c : Records) (r : Record) → count (phase_of r) (filed c r) ≡ count (phase_of r) c + 1
 count_filed c (AType r) = length_push c.types r
 count_filed c (ARole r) = length_push c.roles r
 count_filed c (AGroup r) = length_push c.groups r
 count_filed c (AView r) = length_push c.views r
 count_filed c (ASubject r) = length_push c.subjects r
 
-count_other : (c : Contents) (r : Record) (q : Phase) → (kind_of (phase_of r) ≡ kind_of q → ⊥) → count q (filed c r) ≡ count q c
+count_other : (c : Records) (r : Record) (q : Phase) → (kind_of (phase_of r) ≡ kind_of q → ⊥) → count q (filed c r) ≡ count q c
 count_other c (AType r) Types n = absurd (n refl)
 count_other c (AType r) Roles n = refl
 count_other c (AType r) Groups n = refl
@@ -65,7 +65,7 @@ numbered_other : (p : Phase) (n : ℕ) (q : Phase) → (kind_of p ≡ kind_of q 
 numbered_other p n q e = ap (λ t. cond t n 0) (ne_eqb (kind_of p) (kind_of q) e)
 
 -- one record more
-pub tracks_more : (p : Phase) (n : ℕ) (c : Contents) (r : Record) → Tracks p n c → kind_of p ≤ kind_of (phase_of r)
+pub tracks_more : (p : Phase) (n : ℕ) (c : Records) (r : Record) → Tracks p n c → kind_of p ≤ kind_of (phase_of r)
     → Tracks (phase_of r) (numbered p n (phase_of r) + 1) (filed c r)
 tracks_more p n c r t l q h =
     ⊎_elim
@@ -83,5 +83,5 @@ cut_same : (o : Option Phase) (m n : Phase → ℕ) (bs : List ℕ) → ((q : Ph
 cut_same None m n bs h = refl
 cut_same (Some q) m n bs h = ap (λ k. extent q k bs) (h q refl)
 
-pub cut_tracks : (p : Phase) (n : ℕ) (c : Contents) → Tracks p n c → (bs : List ℕ) → cut p (numbered p n) bs ≡ cut p (λ q. count q c) bs
+pub cut_tracks : (p : Phase) (n : ℕ) (c : Records) → Tracks p n c → (bs : List ℕ) → cut p (numbered p n) bs ≡ cut p (λ q. count q c) bs
 cut_tracks p n c t bs = cut_same (opened p (get_or bs 0 0)) (numbered p n) (λ q. count q c) bs (λ q e. t q (opened_kind p q (get_or bs 0 0) e).0)

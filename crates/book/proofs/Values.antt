@@ -15,14 +15,14 @@ use Rattle.book.specs.declared.phase.Phase.{Phase}
 use Rattle.book.specs.declared.phase.Phase.TheVariants.{Types}
 use Rattle.book.specs.declared.refusal.Refusal.TheVariants.{Empty, Undeclared}
 use Rattle.book.specs.Layout.{Field, names, operations, controlled, modifiers, denials, width}
-use Rattle.book.specs.Contents.{Contents, count}
+use Rattle.book.specs.Contents.{Records, count}
 use Rattle.book.specs.Encoding.{set_field, pair_field, byte_field}
 use Rattle.book.specs.Form.{wrong}
 use Rattle.book.specs.FormRules.{Word, Declared}
 use Rattle.book.proofs.Pieces.{Fine}
 
 -- a field as it stands in a part: without bytes, or fine
-abbrev pub Stood : Contents → Field → List ℕ → Type 0
+abbrev pub Stood : Records → Field → List ℕ → Type 0
 Stood c f b = (b ≡ []) ⊎ ((length b ≡ width f) × Fine c f b)
 
 -- what the tests of a field leave
@@ -65,7 +65,7 @@ set_read s w =
     (λ t. ap set_of (cond-false (is_empty s) [] (bytes_of s) t) ∙ set_of_bytes s w)
     (cases_Bool (is_empty s))
 
-stood_set : (c : Contents) (f : Field) (s : NumberSet) → width f ≡ 8 → Word s → (is_empty s ≡ false → wrong c f (bytes_of s) ≡ None) → Stood c f (set_field s)
+stood_set : (c : Records) (f : Field) (s : NumberSet) → width f ≡ 8 → Word s → (is_empty s ≡ false → wrong c f (bytes_of s) ≡ None) → Stood c f (set_field s)
 stood_set c f s e w n =
     ⊎_elim
     (λ t. inl (cond-true (is_empty s) [] (bytes_of s) t))
@@ -75,16 +75,16 @@ stood_set c f s e w n =
     (cases_Bool (is_empty s))
 
 -- a set of operations
-pub operations_back : (c : Contents) (b : List ℕ) → Stood c operations b → (set_field (set_of b) ≡ b) × Word (set_of b)
+pub operations_back : (c : Records) (b : List ℕ) → Stood c operations b → (set_field (set_of b) ≡ b) × Word (set_of b)
 operations_back c b (inl e) = (set_back b (inl e), subst (λ b. Word (set_of b)) (sym e) word_of_none)
 operations_back c b (inr p) = (set_back b (inr (p.0, p.1.0, empty_none _ p.1.1)), word_of_bytes b p.0 p.1.0)
 
-pub operations_stood : (c : Contents) (s : NumberSet) → Word s → Stood c operations (set_field s)
+pub operations_stood : (c : Records) (s : NumberSet) → Word s → Stood c operations (set_field s)
 operations_stood c s w =
     stood_set c operations s refl w (λ t. ap (λ s. cond (is_empty s) (Some Empty) None) (set_of_bytes s w) ∙ ap (λ x. cond x (Some Empty) None) t)
 
 -- a set of numbers of records
-pub names_back : (c : Contents) (k : Phase) (b : List ℕ) → Stood c (names k) b → (set_field (set_of b) ≡ b) × Declared c k (set_of b)
+pub names_back : (c : Records) (k : Phase) (b : List ℕ) → Stood c (names k) b → (set_field (set_of b) ≡ b) × Declared c k (set_of b)
 names_back c k b (inl e) = (
   set_back b (inl e),
   subst (λ b. Declared c k (set_of b)) (sym e) (word_of_none, λ i h. absurd (none i h)),
@@ -97,7 +97,7 @@ names_back c k b (inr p) =
     let w = word_of_bytes b p.0 p.1.0 in
     (set_back b (inr (p.0, p.1.0, t.0)), (w, (below (count k c) (number_from_digits 256 b) w).0 (ltb-true _ _ t.1)))
 
-pub names_stood : (c : Contents) (k : Phase) (s : NumberSet) → Declared c k s → Stood c (names k) (set_field s)
+pub names_stood : (c : Records) (k : Phase) (s : NumberSet) → Declared c k s → Stood c (names k) (set_field s)
 names_stood c k s d =
     let h = lt-ltb s.bits (2 ^ count k c) ((below (count k c) s.bits d.0).1 d.1) in
     stood_set c (names k) s refl d.0
@@ -112,20 +112,20 @@ one [] l = absurd (omega arith)
 one (x ∷ []) l = refl
 one (x ∷ y ∷ b) l = absurd (omega arith)
 
-pub controlled_back : (c : Contents) (b : List ℕ) → Stood c controlled b → 0 < length b → (get_or b 0 0 ∷ [] ≡ b) × (get_or b 0 0 < count Types c)
+pub controlled_back : (c : Records) (b : List ℕ) → Stood c controlled b → 0 < length b → (get_or b 0 0 ∷ [] ≡ b) × (get_or b 0 0 < count Types c)
 controlled_back c b (inl e) l = absurd (let z = ap length e in omega arith)
 controlled_back c b (inr p) l = (one b p.0, ltb-true _ _ (below_none _ p.1.1))
 
-pub controlled_stood : (c : Contents) (n : ℕ) → n < count Types c → n < 256 → Stood c controlled (n ∷ [])
+pub controlled_stood : (c : Records) (n : ℕ) → n < count Types c → n < 256 → Stood c controlled (n ∷ [])
 controlled_stood c n l s = inr (refl, ((s, tt), ap (λ x. cond x None (Some Undeclared)) (lt-ltb n (count Types c) l)))
 
-pub modifiers_back : (c : Contents) (b : List ℕ) → Stood c modifiers b → (byte_field (get_or b 0 0) ≡ b) × (get_or b 0 0 ≤ 7)
+pub modifiers_back : (c : Records) (b : List ℕ) → Stood c modifiers b → (byte_field (get_or b 0 0) ≡ b) × (get_or b 0 0 ≤ 7)
 modifiers_back c b (inl e) = subst (λ b. (byte_field (get_or b 0 0) ≡ b) × (get_or b 0 0 ≤ 7)) (sym e) (refl, omega arith)
 modifiers_back c b (inr p) =
     let t = both_none (eqb (get_or b 0 0) 0) (leb (get_or b 0 0) 7) p.1.1 in
     (cond-false (eqb (get_or b 0 0) 0) [] (get_or b 0 0 ∷ []) t.0 ∙ one b p.0, leb-true _ _ t.1)
 
-pub modifiers_stood : (c : Contents) (n : ℕ) → n ≤ 7 → Stood c modifiers (byte_field n)
+pub modifiers_stood : (c : Records) (n : ℕ) → n ≤ 7 → Stood c modifiers (byte_field n)
 modifiers_stood c n l =
     ⊎_elim
     (λ t. inl (cond-true (eqb n 0) [] (n ∷ []) t))
@@ -143,7 +143,7 @@ modifiers_read n =
 
 -- ---- two sets in one field
 
-pub denials_back : (c : Contents) (b : List ℕ) → Stood c denials b
+pub denials_back : (c : Records) (b : List ℕ) → Stood c denials b
     → (pair_field (set_of (take 8 b)) (set_of (drop 8 b)) ≡ b) × Word (set_of (take 8 b)) × Word (set_of (drop 8 b))
 denials_back c b (inl e) =
     subst (λ b. (pair_field (set_of (take 8 b)) (set_of (drop 8 b)) ≡ b) × Word (set_of (take 8 b)) × Word (set_of (drop 8 b))) (sym e) (refl, word_of_none, word_of_none)
@@ -168,7 +168,7 @@ front s t = take_at (bytes_of s) (bytes_of t) 8 (length_bytes 8 s.bits)
 back : (s t : NumberSet) → drop 8 (bytes_of s ++ bytes_of t) ≡ bytes_of t
 back s t = drop_at (bytes_of s) (bytes_of t) 8 (length_bytes 8 s.bits)
 
-pub denials_stood : (c : Contents) (s t : NumberSet) → Word s → Word t → Stood c denials (pair_field s t)
+pub denials_stood : (c : Records) (s t : NumberSet) → Word s → Word t → Stood c denials (pair_field s t)
 denials_stood c s t v w =
     let ls = length_bytes 8 s.bits in
     let lt = length_bytes 8 t.bits in

@@ -2,15 +2,9 @@
 use Rattle.std.specs.Prelude.{ℕ, List, [], ◌∷◌, ◌++◌, length}
 use Rattle.book.specs.declared.phase.Phase.{Phase}
 use Rattle.book.specs.declared.phase.Phase.TheVariants.{Types, Roles, Groups, Views, Subjects}
-use Rattle.records.specs.declared.TypeRecord.{TypeRecord}
-use Rattle.records.specs.declared.RoleRecord.{RoleRecord}
-use Rattle.records.specs.declared.GroupRecord.{GroupRecord}
-use Rattle.records.specs.declared.View.{View}
-use Rattle.records.specs.declared.SubjectRecord.{SubjectRecord}
 pub use Rattle.records.specs.declared.Record.{Record}
 pub use Rattle.records.specs.declared.Record.TheVariants.{AType, ARole, AGroup, AView, ASubject}
-use Rattle.book.specs.declared.contents.Records.{Records}
-use Rattle.tables.specs.Tables.{listed}
+pub use Rattle.book.specs.declared.contents.Records.{Records}
 
 -- the kind of a record
 abbrev pub phase_of : Record → Phase
@@ -28,20 +22,12 @@ place_of (AGroup r) = r.place
 place_of (AView r) = r.place
 place_of (ASubject r) = r.place
 
--- the records of each kind, by their numbers
-pub record Contents : Type 0 where
-  pub types : List TypeRecord
-  pub roles : List RoleRecord
-  pub groups : List GroupRecord
-  pub views : List View
-  pub subjects : List SubjectRecord
-
 -- no record at all
-abbrev pub nothing : Contents
+abbrev pub nothing : Records
 nothing = record { types = []; roles = []; groups = []; views = []; subjects = [] }
 
 -- how many records of a kind there are
-abbrev pub count : Phase → Contents → ℕ
+abbrev pub count : Phase → Records → ℕ
 count Types c = length c.types
 count Roles c = length c.roles
 count Groups c = length c.groups
@@ -49,7 +35,7 @@ count Views c = length c.views
 count Subjects c = length c.subjects
 
 -- one record more: it gets the next number of its kind
-abbrev pub filed : Contents → Record → Contents
+abbrev pub filed : Records → Record → Records
 filed c (AType r) = record { types = c.types ++ (r ∷ []); roles = c.roles; groups = c.groups; views = c.views; subjects = c.subjects }
 filed c (ARole r) = record { types = c.types; roles = c.roles ++ (r ∷ []); groups = c.groups; views = c.views; subjects = c.subjects }
 filed c (AGroup r) = record { types = c.types; roles = c.roles; groups = c.groups ++ (r ∷ []); views = c.views; subjects = c.subjects }
@@ -57,10 +43,6 @@ filed c (AView r) = record { types = c.types; roles = c.roles; groups = c.groups
 filed c (ASubject r) = record { types = c.types; roles = c.roles; groups = c.groups; views = c.views; subjects = c.subjects ++ (r ∷ []) }
 
 -- many records more, in their order
-abbrev pub filed_all : Contents → List Record → Contents
+abbrev pub filed_all : Records → List Record → Records
 filed_all c [] = c
 filed_all c (r ∷ rs) = filed_all (filed c r) rs
-
--- what the tables hold
-abbrev pub contents_of : Records → Contents
-contents_of t = record { types = listed t.types; roles = listed t.roles; groups = listed t.groups; views = listed t.views; subjects = listed t.subjects }

@@ -6,18 +6,18 @@ use Rattle.records.specs.declared.RoleRecord.{RoleRecord}
 use Rattle.records.specs.declared.GroupRecord.{GroupRecord}
 use Rattle.records.specs.declared.View.{View}
 use Rattle.records.specs.declared.SubjectRecord.{SubjectRecord}
-use Rattle.book.specs.Contents.{Contents}
+use Rattle.book.specs.Contents.{Records}
 
 -- the type of a number; one with no link and no operation where none is declared
-abbrev pub type_at : Contents → ℕ → TypeRecord
+abbrev pub type_at : Records → ℕ → TypeRecord
 type_at c i = slice_index_or c.types i (record { place = 0; supertypes = none; operations = none })
 
 -- the role of a number
-abbrev pub role_at : Contents → ℕ → RoleRecord
+abbrev pub role_at : Records → ℕ → RoleRecord
 role_at c i = slice_index_or c.roles i (record { place = 0; superroles = none })
 
 -- the group of a number
-abbrev pub group_at : Contents → ℕ → GroupRecord
+abbrev pub group_at : Records → ℕ → GroupRecord
 group_at c i = slice_index_or c.groups i (record { place = 0; supergroups = none; roles = none })
 
 -- a view with no right, no link and no modifier
@@ -34,15 +34,15 @@ no_view = record {
 }
 
 -- the view of a number
-abbrev pub view_at : Contents → ℕ → View
+abbrev pub view_at : Records → ℕ → View
 view_at c i = slice_index_or c.views i no_view
 
 -- the subject of a number
-abbrev pub subject_at : Contents → ℕ → SubjectRecord
+abbrev pub subject_at : Records → ℕ → SubjectRecord
 subject_at c i = slice_index_or c.subjects i (record { place = 0; groups = none })
 
 -- records name only what is declared, and of their own kind only lower numbers
-pub record Declares (c : Contents) : Type 0 where
+pub record Declares (c : Records) : Type 0 where
   pub supertypes : (i k : ℕ) → In k (type_at c i).supertypes → k < i
   pub superroles : (i k : ℕ) → In k (role_at c i).superroles → k < i
   pub supergroups : (i k : ℕ) → In k (group_at c i).supergroups → k < i

@@ -15,7 +15,7 @@ use Rattle.records.specs.declared.View.{View}
 use Rattle.book.specs.declared.contents.Terms.{Terms}
 use Rattle.records.specs.declared.SubjectRecord.{SubjectRecord}
 use Rattle.book.specs.Layout.{kind_of, kind_named, limit, Field, names, operations, controlled, modifiers, denials, layout, width, needs_first}
-use Rattle.book.specs.Contents.{Record, AType, ARole, AGroup, AView, ASubject, Contents, nothing, count, filed, filed_all}
+use Rattle.book.specs.Contents.{Record, AType, ARole, AGroup, AView, ASubject, Records, nothing, count, filed, filed_all}
 
 -- the kind of the next record after one of kind p: kinds never go down
 abbrev pub opened : Phase → ℕ → Option Phase
@@ -79,7 +79,7 @@ abbrev pub wrong_denials : List ℕ → Option Refusal
 wrong_denials bs = cond (is_empty (set_of (take 8 bs)) && is_empty (set_of (drop 8 bs))) (Some Empty) None
 
 -- what is wrong with the bytes of a field that is present, after the records that are there
-abbrev pub wrong : Contents → Field → List ℕ → Option Refusal
+abbrev pub wrong : Records → Field → List ℕ → Option Refusal
 wrong c (names p) bs = wrong_names (count p c) bs
 wrong c operations bs = wrong_operations bs
 wrong c controlled bs = wrong_controlled (count Types c) bs
@@ -109,7 +109,7 @@ or_else (Some r) o = Some r
 or_else None o = o
 
 -- what is wrong with the first field of which something is wrong
-abbrev pub first_wrong : Contents → List Field → ℕ → List ℕ → Option Refusal
+abbrev pub first_wrong : Records → List Field → ℕ → List ℕ → Option Refusal
 first_wrong c [] m bs = None
 first_wrong c (f ∷ fs) m bs = or_else (wrong_next (wrong c f) (width f) m bs) (first_wrong c fs (m / 2) (behind (width f) m bs))
 
@@ -170,7 +170,7 @@ record_from Subjects at fs = ASubject (subject_from at fs)
 pub record State : Type 0 where
   pub phase : Phase
   pub place : ℕ
-  pub contents : Contents
+  pub contents : Records
 
 -- before the first record
 abbrev pub start : State
@@ -224,10 +224,10 @@ abbrev pub form : List ℕ → Result (List Record) Fault
 form bs = after_opening (opening bs) bs
 
 -- the same, by the records' numbers, behind those that are there
-abbrev pub filing : Contents → Result (List Record) Fault → Result Contents Fault
+abbrev pub filing : Records → Result (List Record) Fault → Result Records Fault
 filing c (Ok rs) = Ok (filed_all c rs)
 filing c (Err f) = Err f
 
 -- what a book contains, or its refusal
-abbrev pub reading : List ℕ → Result Contents Fault
+abbrev pub reading : List ℕ → Result Records Fault
 reading bs = filing nothing (form bs)

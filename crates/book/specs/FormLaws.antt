@@ -6,7 +6,7 @@ use Rattle.book.specs.declared.phase.Phase.{Phase}
 use Rattle.book.specs.declared.phase.Phase.TheVariants.{Types}
 use Rattle.book.specs.Layout.{kind_of}
 use Rattle.book.specs.declared.refusal.Fault.{Fault}
-use Rattle.book.specs.Contents.{Record, Contents, nothing, filed_all}
+use Rattle.book.specs.Contents.{Record, Records, nothing, filed_all}
 use Rattle.book.specs.Encoding.{encode, together}
 use Rattle.book.specs.Form.{form, cut, Cut, whole, broken}
 use Rattle.book.specs.FormRules.{Formed}
@@ -16,7 +16,7 @@ abbrev pub PassesAsEncoded : Type 0
 PassesAsEncoded = (bs : List ℕ) → AllBelowBase 256 bs → (rs : List Record) → Iff (form bs ≡ Ok rs) ((bs ≡ encode rs) × Formed rs)
 
 -- what was read of a book is the records of which it is the encoding, and a book that is refused is no encoding
-abbrev pub Exactly : List ℕ → Result Contents Fault → Type 0
+abbrev pub Exactly : List ℕ → Result Records Fault → Type 0
 Exactly bs (Ok c) = (rs : List Record) × (bs ≡ encode rs) × Formed rs × (filed_all nothing rs ≡ c)
 Exactly bs (Err f) = (rs : List Record) → bs ≡ encode rs → Formed rs → ⊥
 

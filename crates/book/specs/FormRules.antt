@@ -5,7 +5,7 @@ use Rattle.sets.specs.Members.{In}
 use Rattle.book.specs.declared.phase.Phase.{Phase}
 use Rattle.book.specs.declared.phase.Phase.TheVariants.{Types, Roles, Groups, Views}
 use Rattle.book.specs.Layout.{kind_of, limit}
-use Rattle.book.specs.Contents.{Record, AType, ARole, AGroup, AView, ASubject, Contents, count, phase_of, place_of}
+use Rattle.book.specs.Contents.{Record, AType, ARole, AGroup, AView, ASubject, Records, count, phase_of, place_of}
 use Rattle.book.specs.Encoding.{encode_record, encode}
 use Rattle.book.specs.Form.{State, start, advanced}
 
@@ -14,11 +14,11 @@ abbrev pub Word : NumberSet → Type 0
 Word s = s.bits < 2 ^ 64
 
 -- a set of numbers of records of kind p, each declared before
-abbrev pub Declared : Contents → Phase → NumberSet → Type 0
+abbrev pub Declared : Records → Phase → NumberSet → Type 0
 Declared c p s = Word s × ((k : ℕ) → In k s → k < count p c)
 
 -- the fields of a record are in range, and name only what is declared before it
-abbrev pub Ranged : Contents → Record → Type 0
+abbrev pub Ranged : Records → Record → Type 0
 Ranged c (AType r) = Declared c Types r.supertypes × Word r.operations
 Ranged c (ARole r) = Declared c Roles r.superroles
 Ranged c (AGroup r) = Declared c Groups r.supergroups × Declared c Roles r.roles

@@ -2,7 +2,7 @@
 ghost use Rattle.std.specs.Prelude.{◌≡◌, ◌+◌, ◌<◌, ◌≤◌, length, drop, slice_index};
 ghost use Rattle.book.specs.declared.phase.Phase.TheVariants.{Types, Roles, Groups, Views, Subjects};
 ghost use Rattle.book.specs.Layout.{layout, limit, rights_fields, terms_fields};
-ghost use Rattle.book.specs.Contents.{contents_of, nothing, count, filed, phase_of};
+ghost use Rattle.book.specs.Contents.{nothing, count, filed, phase_of};
 ghost use Rattle.book.specs.Form.{span, pieces, first_wrong, record_from, rights_from, terms_from};
 ghost use Rattle.book.specs.Reading.{Told};
 
@@ -36,7 +36,7 @@ pub struct Records {
 impl Records {
     /// No record at all.
     pub fn empty() -> Records
-        ensures { contents_of result ≡ nothing }
+        ensures { result ≡ nothing }
     {
         let none = NumberSet::empty();
         let rights = Rights {
@@ -78,7 +78,7 @@ impl Records {
     // The type that the fields make.
     fn type_from(&self, place: usize, mut fields: Fields<'_>) -> Result<Record, Refusal>
         requires { span (layout Types) fields.map ≤ length fields.rest.now }
-        ensures { Told result (first_wrong (contents_of self.now) (layout Types) fields.entry.map fields.entry.rest.now) (record_from Types place (pieces (layout Types) fields.entry.map fields.entry.rest.now)) }
+        ensures { Told result (first_wrong self.now (layout Types) fields.entry.map fields.entry.rest.now) (record_from Types place (pieces (layout Types) fields.entry.map fields.entry.rest.now)) }
     {
         let supertypes = fields.numbers(self.types.len())?;
         let operations = fields.set()?;
@@ -92,7 +92,7 @@ impl Records {
     // The role that the fields make.
     fn role_from(&self, place: usize, mut fields: Fields<'_>) -> Result<Record, Refusal>
         requires { span (layout Roles) fields.map ≤ length fields.rest.now }
-        ensures { Told result (first_wrong (contents_of self.now) (layout Roles) fields.entry.map fields.entry.rest.now) (record_from Roles place (pieces (layout Roles) fields.entry.map fields.entry.rest.now)) }
+        ensures { Told result (first_wrong self.now (layout Roles) fields.entry.map fields.entry.rest.now) (record_from Roles place (pieces (layout Roles) fields.entry.map fields.entry.rest.now)) }
     {
         let superroles = fields.numbers(self.roles.len())?;
         Ok(Record::ARole(RoleRecord { place, superroles }))
@@ -101,7 +101,7 @@ impl Records {
     // The group that the fields make.
     fn group_from(&self, place: usize, mut fields: Fields<'_>) -> Result<Record, Refusal>
         requires { span (layout Groups) fields.map ≤ length fields.rest.now }
-        ensures { Told result (first_wrong (contents_of self.now) (layout Groups) fields.entry.map fields.entry.rest.now) (record_from Groups place (pieces (layout Groups) fields.entry.map fields.entry.rest.now)) }
+        ensures { Told result (first_wrong self.now (layout Groups) fields.entry.map fields.entry.rest.now) (record_from Groups place (pieces (layout Groups) fields.entry.map fields.entry.rest.now)) }
     {
         let supergroups = fields.numbers(self.groups.len())?;
         let roles = fields.numbers(self.roles.len())?;
@@ -115,7 +115,7 @@ impl Records {
     // The subject that the fields make.
     fn subject_from(&self, place: usize, mut fields: Fields<'_>) -> Result<Record, Refusal>
         requires { span (layout Subjects) fields.map ≤ length fields.rest.now }
-        ensures { Told result (first_wrong (contents_of self.now) (layout Subjects) fields.entry.map fields.entry.rest.now) (record_from Subjects place (pieces (layout Subjects) fields.entry.map fields.entry.rest.now)) }
+        ensures { Told result (first_wrong self.now (layout Subjects) fields.entry.map fields.entry.rest.now) (record_from Subjects place (pieces (layout Subjects) fields.entry.map fields.entry.rest.now)) }
     {
         let groups = fields.numbers(self.groups.len())?;
         Ok(Record::ASubject(SubjectRecord { place, groups }))
@@ -144,7 +144,7 @@ impl Records {
     // The role restriction, the modifiers and the rights of a view.
     fn terms_from(&self, mut fields: Fields<'_>) -> Result<Terms, Refusal>
         requires { span terms_fields fields.map ≤ length fields.rest.now }
-        ensures { Told result (first_wrong (contents_of self.now) terms_fields fields.entry.map fields.entry.rest.now) (terms_from (pieces terms_fields fields.entry.map fields.entry.rest.now)) }
+        ensures { Told result (first_wrong self.now terms_fields fields.entry.map fields.entry.rest.now) (terms_from (pieces terms_fields fields.entry.map fields.entry.rest.now)) }
     {
         let restriction = fields.numbers(self.roles.len())?;
         let modifiers = fields.modifiers()?;
@@ -160,7 +160,7 @@ impl Records {
     // The view that the fields make.
     fn view_from(&self, place: usize, mut fields: Fields<'_>) -> Result<Record, Refusal>
         requires { span (layout Views) fields.map ≤ length fields.rest.now }
-        ensures { Told result (first_wrong (contents_of self.now) (layout Views) fields.entry.map fields.entry.rest.now) (record_from Views place (pieces (layout Views) fields.entry.map fields.entry.rest.now)) }
+        ensures { Told result (first_wrong self.now (layout Views) fields.entry.map fields.entry.rest.now) (record_from Views place (pieces (layout Views) fields.entry.map fields.entry.rest.now)) }
     {
         let controlled = fields.controlled(self.types.len())?;
         let bases = fields.numbers(self.views.len())?;
@@ -186,7 +186,7 @@ impl Records {
     // The record of a kind that the fields make.
     fn from_fields(&self, phase: Phase, place: usize, fields: Fields<'_>) -> Result<Record, Refusal>
         requires { span (layout phase) fields.map ≤ length fields.rest.now }
-        ensures { Told result (first_wrong (contents_of self.now) (layout phase) fields.entry.map fields.entry.rest.now) (record_from phase place (pieces (layout phase) fields.entry.map fields.entry.rest.now)) }
+        ensures { Told result (first_wrong self.now (layout phase) fields.entry.map fields.entry.rest.now) (record_from phase place (pieces (layout phase) fields.entry.map fields.entry.rest.now)) }
     {
         match phase {
             Phase::Types => self.type_from(place, fields),
@@ -200,7 +200,7 @@ impl Records {
     /// The record that a part makes, after those that are there.
     pub(crate) fn made_of(&self, part: Part<'_>) -> Result<Record, Refusal>
         requires { length part.bytes.now ≡ 2 + span (layout part.phase) (slice_index part.bytes.now 1) }
-        ensures { Told result (first_wrong (contents_of self.now) (layout part.entry.phase) (slice_index part.entry.bytes.now 1) (drop 2 part.entry.bytes.now)) (record_from part.entry.phase part.entry.place (pieces (layout part.entry.phase) (slice_index part.entry.bytes.now 1) (drop 2 part.entry.bytes.now))) }
+        ensures { Told result (first_wrong self.now (layout part.entry.phase) (slice_index part.entry.bytes.now 1) (drop 2 part.entry.bytes.now)) (record_from part.entry.phase part.entry.place (pieces (layout part.entry.phase) (slice_index part.entry.bytes.now 1) (drop 2 part.entry.bytes.now))) }
     {
         match part.bytes {
             [_kind, map, rest @ ..] => self.from_fields(
@@ -214,10 +214,10 @@ impl Records {
 
     /// Adds a record behind those of its kind.
     pub(crate) fn file(&mut self, made: Record)
-        requires { count (phase_of made) (contents_of self.old) < limit (phase_of made) }
-        ensures { contents_of self.new ≡ filed (contents_of self.old) made }
+        requires { count (phase_of made) self.old < limit (phase_of made) }
+        ensures { self.new ≡ filed self.old made }
     {
-        let _room = match made {
+        let _ = match made {
             Record::AType(record) => self.types.push(record),
             Record::ARole(record) => self.roles.push(record),
             Record::AGroup(record) => self.groups.push(record),

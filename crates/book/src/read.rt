@@ -1,6 +1,5 @@
 //! Reading a whole book.
 ghost use Rattle.std.specs.Prelude.{◌≡◌, IfOk, Ok, Err, MatchResult};
-ghost use Rattle.book.specs.Contents.{contents_of};
 ghost use Rattle.book.specs.Declarations.{Declares};
 ghost use Rattle.book.specs.Form.{opening, reading};
 ghost use Rattle.book.specs.Reading.{Told};
@@ -25,9 +24,9 @@ pub fn check_opening(book: &[u8]) -> Result<(), Refusal>
 
 /// The records of a book, or why and where its form is refused.
 pub fn read(book: &[u8]) -> Result<Records, Fault>
-    ensures records { MatchResult result (λ t. reading book.now ≡ Ok (contents_of t)) (λ f. reading book.now ≡ Err f) }
-    ensures exactly { MatchResult result (λ t. Exactly book.now (Ok (contents_of t))) (λ f. Exactly book.now (Err f)) }
-    ensures declared { IfOk result (λ t. Declares (contents_of t)) }
+    ensures records { MatchResult result (λ t. reading book.now ≡ Ok t) (λ f. reading book.now ≡ Err f) }
+    ensures exactly { MatchResult result (λ t. Exactly book.now (Ok t)) (λ f. Exactly book.now (Err f)) }
+    ensures declared { IfOk result (λ t. Declares t) }
     ensures encoded { PassesAsEncoded }
     ensures parts { PartsAreTheBook }
 {

@@ -1,6 +1,5 @@
 -- What a report on a judged book holds.
 use Rattle.std.specs.Prelude.{◌≡◌, ℕ, ◌<◌, List, Ok, Err, ◌≢◌, slice_index_or}
-use Rattle.book.specs.Contents.{contents_of}
 use Rattle.records.specs.declared.View.{View}
 use Rattle.book.specs.Declarations.{no_view}
 use Rattle.book.specs.Form.{reading}
@@ -10,8 +9,8 @@ use Rattle.listing.specs.declared.judged_report.JudgedReport.TheVariants.{Accept
 
 -- the accepted book; the records of the book, and the rule's rejection of it; or the refusal of its form
 abbrev pub JudgedReports : JudgedReport → List ℕ → Type 0
-JudgedReports (Accepted b) bs = Judged bs (Ok (contents_of b.records))
-JudgedReports (Rejected t e) bs = (reading bs ≡ Ok (contents_of t)) × Judged bs (Err e)
+JudgedReports (Accepted b) bs = Judged bs (Ok b.records)
+JudgedReports (Rejected t e) bs = (reading bs ≡ Ok t) × Judged bs (Err e)
 JudgedReports (Refused f) bs = reading bs ≡ Err f
 
 -- none of the first n views stands at the place

@@ -7,7 +7,7 @@ use Rattle.sets.specs.Members.{Bit, In, Iff, none}
 use Rattle.hierarchy.specs.Order.{Falling, Below}
 use Rattle.hierarchy.specs.Paths.{below_within}
 use Rattle.records.specs.declared.View.{View}
-use Rattle.book.specs.Contents.{Contents}
+use Rattle.book.specs.Contents.{Records}
 use Rattle.book.specs.Declarations.{Declares, type_at, view_at, no_view}
 use Rattle.acceptance.specs.declared.rejection.Rule.TheVariants.{TwoRights, ForeignOperation, AssignableDenial, VirtualRight, ControlledType, RoleRestriction, Requirement, Redefinition, Clashing}
 use Rattle.views.specs.Some.{Exists}
@@ -35,20 +35,20 @@ every_at f d e (x ∷ xs) h zero = (and_parts (f x) (every_of f xs) h).0
 every_at f d e (x ∷ xs) h (suc i) = every_at f d e xs (and_parts (f x) (every_of f xs) h).1 i
 
 -- at most 64 of a kind, and sets of numbers below 64
-abbrev pub sized : Contents → Bool
+abbrev pub sized : Records → Bool
 sized c =
     (leb (length c.types) 64 && leb (length c.roles) 64 && leb (length c.views) 64)
     && (every_of (λ t. small t.operations.bits) c.types && every_of small_view c.views)
 
 -- the same as facts, with the orders
-pub record Sized (c : Contents) : Type 0 where
+pub record Sized (c : Records) : Type 0 where
   pub types : Falling (type_links c)
   pub roles : Falling (role_links c)
   pub views : Falling (view_links c)
   pub operations : (i : ℕ) → (type_at c i).operations.bits < 2 ^ 64
   pub view : (i : ℕ) → Small (view_at c i)
 
-pub sized_so : (c : Contents) → Declares c → sized c ≡ true → Sized c
+pub sized_so : (c : Records) → Declares c → sized c ≡ true → Sized c
 sized_so c d e =
     let a = and_parts _ _ e in
     let p = and_parts _ _ a.0 in
@@ -65,31 +65,31 @@ sized_so c d e =
 -- ---- the tests
 
 -- the operations of a type
-abbrev pub operations_of : Contents → ℕ → ℕ
+abbrev pub operations_of : Records → ℕ → ℕ
 operations_of c t = gathered (length c.types) (above (type_links c) t) (λ s. (type_at c s).operations.bits)
 
 -- rights are for operations of the controlled type only
-abbrev pub own_operations_test : Contents → View → Bool
+abbrev pub own_operations_test : Records → View → Bool
 own_operations_test c v = within (rights v) (operations_of c v.controlled)
 
 -- the controlled type is at or below that of the base
-abbrev pub type_follows_test : Contents → View → View → Bool
+abbrev pub type_follows_test : Records → View → View → Bool
 type_follows_test c v w = has w.controlled (above (type_links c) v.controlled)
 
 -- where the base is restricted, so is the view, and only to roles at or below those of the base
-abbrev pub restriction_follows_test : Contents → View → View → Bool
+abbrev pub restriction_follows_test : Records → View → View → Bool
 restriction_follows_test c v w =
     not (not (bare w.restriction.bits))
     || (not (bare v.restriction.bits)
     && every_below (length c.roles) (λ r. not (has r v.restriction.bits) || some_below (length c.roles) (λ s. has s w.restriction.bits && has s (above (role_links c) r))))
 
 -- two views clash
-abbrev pub clash : Contents → ℕ → ℕ → Bool
+abbrev pub clash : Records → ℕ → ℕ → Bool
 clash c i j =
     ((not (has j (above (view_links c) i)) && not (has i (above (view_links c) j))) && opposed (view_at c i) (view_at c j))
     && some_below (length c.types) (λ t. has (view_at c i).controlled (above (type_links c) t) && has (view_at c j).controlled (above (type_links c) t))
 
-module _ (c : Contents) (d : Declares c) (s : Sized c) where
+module _ (c : Records) (d : Declares c) (s : Sized c) where
   in_operations : (t o : ℕ) → Iff (Bit o (operations_of c t)) (OperationOf c t o)
   in_operations t o =
       let g = in_gathered (length c.types) (above (type_links c) t) (λ s. (type_at c s).operations.bits) o in
@@ -142,7 +142,7 @@ module _ (c : Contents) (d : Declares c) (s : Sized c) where
 -- ---- all of them, in the order of the checks
 
 -- of a view by itself
-abbrev pub view_trials : Contents → View → List Trial
+abbrev pub view_trials : Records → View → List Trial
 view_trials c v =
     trial (breach TwoRights v None) (one_right_test v)
     ∷ trial (breach ForeignOperation v None) (own_operations_test c v)
@@ -151,7 +151,7 @@ view_trials c v =
     ∷ []
 
 -- of a view against the view of number b, where it names that one as a base
-abbrev pub base_trials : Contents → View → ℕ → List Trial
+abbrev pub base_trials : Records → View → ℕ → List Trial
 base_trials c v b =
     trial (breach ControlledType v (Some b)) (not (has b v.bases.bits) || type_follows_test c v (view_at c b))
     ∷ trial (breach RoleRestriction v (Some b)) (not (has b v.bases.bits) || restriction_follows_test c v (view_at c b))
@@ -160,16 +160,16 @@ base_trials c v b =
     ∷ []
 
 -- of two views, the lower number first
-abbrev pub pair_trials : Contents → ℕ → ℕ → List Trial
+abbrev pub pair_trials : Records → ℕ → ℕ → List Trial
 pair_trials c i j = trial (breach Clashing (view_at c i) (Some j)) (not (ltb i j) || not (clash c i j)) ∷ []
 
 -- view by view, and then pair by pair
-abbrev pub trials : Contents → List Trial
+abbrev pub trials : Records → List Trial
 trials c =
     trials_up_to (length c.views) (λ i. view_trials c (view_at c i) ++ trials_up_to (length c.views) (base_trials c (view_at c i)))
     ++ trials_up_to (length c.views) (λ i. trials_up_to (length c.views) (pair_trials c i))
 
-module _ (c : Contents) (d : Declares c) (s : Sized c) where
+module _ (c : Records) (d : Declares c) (s : Sized c) where
   view_matched : (i : ℕ) → Matched (of_view c (view_at c i)) (view_trials c (view_at c i))
   view_matched i =
       let v = view_at c i in

@@ -2,7 +2,7 @@
 use Rattle.std.proofs.Common.{◌≡◌, ℕ, Bool, true, false, ◌&&◌, eqb, List, [], ◌∷◌, Some, None, Option, Result, refl, ap}
 use Rattle.std.proofs.lemmas.Bool.{and_parts, eqb-true, false≢true}
 use Rattle.book.specs.declared.refusal.Fault.{Fault}
-use Rattle.book.specs.Contents.{Contents}
+use Rattle.book.specs.Contents.{Records}
 use Rattle.book.specs.Form.{reading}
 use Rattle.worked_cases.specs.Table.{Outcome, accepted, rejected, outcome_of, Row, ComesOut, EachComesOut, rows, AllComeOut}
 use Rattle.worked_cases.proofs.Judging.{judgement_of, read_sized, judged_of}
@@ -40,7 +40,7 @@ same_outcome_lem (rejected n p o) (rejected m q r) e =
     cc
 
 -- what was read is judged as the row says
-abbrev pub comes_out_of : Result Contents Fault → Outcome → Bool
+abbrev pub comes_out_of : Result Records Fault → Outcome → Bool
 comes_out_of r o = read_sized r && same_outcome (outcome_of (judgement_of r)) o
 
 -- each row comes out
@@ -48,7 +48,7 @@ abbrev pub each_comes_out : List Row → Bool
 each_comes_out [] = true
 each_comes_out (row ∷ rs) = comes_out_of (reading row.book) row.outcome && each_comes_out rs
 
-comes_out : (row : Row) (r : Result Contents Fault) → reading row.book ≡ r → comes_out_of r row.outcome ≡ true → ComesOut row
+comes_out : (row : Row) (r : Result Records Fault) → reading row.book ≡ r → comes_out_of r row.outcome ≡ true → ComesOut row
 comes_out row r e h =
     let p = and_parts (read_sized r) (same_outcome (outcome_of (judgement_of r)) row.outcome) h in
     (judgement_of r, judged_of row.book r e p.0, same_outcome_lem (outcome_of (judgement_of r)) row.outcome p.1)

@@ -1,7 +1,7 @@
 -- Worked cases: books, and what must come out of each.
 use Rattle.std.specs.Prelude.{◌≡◌, ℕ, List, [], ◌∷◌, ◌++◌, Some, Ok, Err, Option, Result}
 use Rattle.sets.specs.Bytes.{bytes_in}
-use Rattle.book.specs.Contents.{Contents}
+use Rattle.book.specs.Contents.{Records}
 use Rattle.book.specs.Encoding.{together}
 use Rattle.acceptance.specs.declared.rejection.Rejection.{Rejection}
 use Rattle.acceptance.specs.Rejections.{reason_number}
@@ -15,7 +15,7 @@ pub data Outcome : Type 0 where
   rejected : ℕ → ℕ → Option ℕ → Outcome
 
 -- what a judgement says to users
-abbrev pub outcome_of : Result Contents Rejection → Outcome
+abbrev pub outcome_of : Result Records Rejection → Outcome
 outcome_of (Ok c) = accepted
 outcome_of (Err e) = rejected (reason_number e.reason) e.place e.other
 
@@ -30,7 +30,7 @@ pub record Row : Type 0 where
 
 -- the judgement of the row's book has the row's outcome; a book has exactly one judgement
 abbrev pub ComesOut : Row → Type 0
-ComesOut row = (r : Result Contents Rejection) × Judged row.book r × (outcome_of r ≡ row.outcome)
+ComesOut row = (r : Result Records Rejection) × Judged row.book r × (outcome_of r ≡ row.outcome)
 
 -- every row of a list comes out as it must
 abbrev pub EachComesOut : List Row → Type 0

@@ -1,6 +1,6 @@
 //! Judging, loading and reading a book.
 ghost use Rattle.std.specs.Prelude.{◌≡◌, IfOk, Ok, Err, MatchResult};
-ghost use Rattle.book.specs.Contents.{contents_of, nothing};
+ghost use Rattle.book.specs.Contents.{nothing};
 ghost use Rattle.book.specs.Declarations.{Declares};
 ghost use Rattle.acceptance.specs.Rules.{Rules};
 ghost use Rattle.acceptance.specs.Judgement.{Judged, OneJudgement, AcceptedByRules};
@@ -16,7 +16,7 @@ use hierarchy::order::Hierarchy;
 impl Book {
     /// The book of no record, with which a caller starts.
     pub fn empty() -> Book
-        ensures { contents_of result.records ≡ nothing }
+        ensures { result.records ≡ nothing }
     {
         Book {
             records: Records::empty(),
@@ -25,8 +25,8 @@ impl Book {
 
     /// The judgement of a book, through the hierarchy `H`.
     pub fn judge<H: Hierarchy + Drop>(bytes: &[u8]) -> Result<Book, Rejection>
-        ensures judged { MatchResult result (λ b. Judged bytes.now (Ok (contents_of b.records))) (λ e. Judged bytes.now (Err e)) }
-        ensures kept { IfOk result (λ b. Kept (contents_of b.records)) }
+        ensures judged { MatchResult result (λ b. Judged bytes.now (Ok b.records)) (λ e. Judged bytes.now (Err e)) }
+        ensures kept { IfOk result (λ b. Kept b.records) }
         ensures single { OneJudgement }
         ensures rules { AcceptedByRules }
     {
@@ -42,7 +42,7 @@ impl Book {
 
     /// Replaces the book by another where that is accepted; a rejected one leaves it as it was.
     pub fn load<H: Hierarchy + Drop>(&mut self, bytes: &[u8]) -> Result<(), Rejection>
-        ensures { MatchResult result (λ _. Judged bytes.now (Ok (contents_of self.new.records))) (λ e. Judged bytes.now (Err e) × (self.new ≡ self.old)) }
+        ensures { MatchResult result (λ _. Judged bytes.now (Ok self.new.records)) (λ e. Judged bytes.now (Err e) × (self.new ≡ self.old)) }
     {
         match Book::judge::<H>(bytes) {
             Ok(book) => {
@@ -56,9 +56,9 @@ impl Book {
     /// The records: whoever has a book has its rules.
     pub fn records(&self) -> &Records
         ensures records { result.now ≡ self.now.records }
-        ensures declared { Declares (contents_of result.now) }
-        ensures rules { Rules (contents_of result.now) }
-        ensures kept { Kept (contents_of result.now) }
+        ensures declared { Declares result.now }
+        ensures rules { Rules result.now }
+        ensures kept { Kept result.now }
     {
         &self.records
     }

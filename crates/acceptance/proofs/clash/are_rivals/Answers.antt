@@ -1,6 +1,5 @@
 use Rattle.std.proofs.Common.{sym, subst}
 use Rattle.records.specs.declared.View.{View}
-use Rattle.book.specs.Contents.{contents_of}
 use Rattle.book.specs.Declarations.{view_at}
 use Rattle.hierarchy.specs.Order.{Below}
 use Rattle.acceptance.specs.Orders.{view_links}
@@ -11,7 +10,7 @@ use Rattle.acceptance.proofs.clash.are_rivals.Goals as goal
 
 pub returns : goal.returns
 returns g c =
-    let all = contents_of c.args.records.now in
+    let all = c.args.records.now in
     let i = c.args.first in
     let j = c.args.second in
     let v = c.view_of.ensures in

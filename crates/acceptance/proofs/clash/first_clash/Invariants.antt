@@ -1,13 +1,12 @@
 use Rattle.std.proofs.Common.{◌≡◌, None}
-use Rattle.book.specs.Contents.{contents_of}
 use Rattle.acceptance.proofs.Clashing.{Before, Unshared}
 use Rattle.acceptance.proofs.clash.first_clash.Given as goal
 
 abbrev pub invariant-loop-kind : goal.invariant-loop-kind
-invariant-loop-kind g l = (l.found ≡ None) × Before (contents_of l.records) l.first l.second × Unshared (contents_of l.records) l.first l.second l.kind
+invariant-loop-kind g l = (l.found ≡ None) × Before l.records l.first l.second × Unshared l.records l.first l.second l.kind
 
 abbrev pub invariant-loop-second : goal.invariant-loop-second
-invariant-loop-second g l = (l.found ≡ None) × Before (contents_of l.records) l.first l.second
+invariant-loop-second g l = (l.found ≡ None) × Before l.records l.first l.second
 
 abbrev pub invariant-pairs : goal.invariant-pairs
-invariant-pairs g l = (l.found ≡ None) × Before (contents_of l.records) l.first 0
+invariant-pairs g l = (l.found ≡ None) × Before l.records l.first 0

@@ -1,6 +1,5 @@
 use Rattle.std.proofs.Common.{Some, sym, refl, ap, subst, inl, inr}
 use Rattle.records.specs.declared.View.{View}
-use Rattle.book.specs.Contents.{contents_of}
 use Rattle.views.specs.ViewRules.{RequirementsFollow, RightsFollow}
 use Rattle.acceptance.specs.Rules.{TypeFollows, RestrictionFollows}
 use Rattle.views.proofs.Tested.{fails}
@@ -8,7 +7,7 @@ use Rattle.acceptance.proofs.extension.base_breach.Goals as goal
 
 pub returns-then-not-restriction_follows : goal.returns-then-not-restriction_follows
 returns-then-not-restriction_follows g c =
-    let all = contents_of c.args.records.now in
+    let all = c.args.records.now in
     let v = c.args.view.now in
     let base = c.view_of-base.ensures in
     let named = c.contains.ensures.0 c.if-not-contains.false in
@@ -18,7 +17,7 @@ returns-then-not-restriction_follows g c =
 
 pub returns-then-not-requirements_follow : goal.returns-then-not-requirements_follow
 returns-then-not-requirements_follow g c =
-    let all = contents_of c.args.records.now in
+    let all = c.args.records.now in
     let v = c.args.view.now in
     let base = c.view_of-base.ensures in
     let named = c.contains.ensures.0 c.if-not-contains.false in
@@ -29,7 +28,7 @@ returns-then-not-requirements_follow g c =
 
 pub returns-then-not-rights_follow : goal.returns-then-not-rights_follow
 returns-then-not-rights_follow g c =
-    let all = contents_of c.args.records.now in
+    let all = c.args.records.now in
     let v = c.args.view.now in
     let base = c.view_of-base.ensures in
     let named = c.contains.ensures.0 c.if-not-contains.false in
@@ -41,7 +40,7 @@ returns-then-not-rights_follow g c =
 
 pub returns : goal.returns
 returns g c =
-    let all = contents_of c.args.records.now in
+    let all = c.args.records.now in
     let v = c.args.view.now in
     let base = c.view_of-base.ensures in
     let typed = subst (λ (w : View). TypeFollows all v w) base ((c.requires.types _ _).0 (c.at_or_below.ensures.0 c.if-not-at_or_below.false)) in

@@ -5,7 +5,6 @@ use Rattle.std.proofs.lemmas.List.{get_or_past}
 use Rattle.sets.specs.declared.NumberSet.{NumberSet}
 use Rattle.sets.specs.Members.{In, Iff}
 use Rattle.sets.proofs.Membership.{not_in_none}
-use Rattle.book.specs.Contents.{contents_of}
 use Rattle.views.specs.Some.{Exists}
 use Rattle.acceptance.specs.Orders.{RoleOf}
 use Rattle.views.proofs.Tested.{fails}
@@ -15,7 +14,7 @@ use Rattle.acceptance.proofs.inherited.subject_roles.Goals.{then-contains, else-
 
 pub returns-in_default : goal.returns-in_default
 returns-in_default g c m k =
-    let all = contents_of c.args.records.now in
+    let all = c.args.records.now in
     let past = ap (λ s. s.groups) (get_or_past all.subjects c.args.number _ c.in_default.ensures) in (
       λ h. absurd (c.empty-roles.ensures.members k h),
       λ h. absurd (∥∥₁_elim h ⊥_prop (λ s. not_in_none s.0 (subst (In s.0) past s.1.0))),
@@ -23,12 +22,12 @@ returns-in_default g c m k =
 
 pub loop-group-init : goal.loop-group-init
 loop-group-init g c m =
-    let all = contents_of c.args.records.now in
+    let all = c.args.records.now in
     upto_none c.in-Some.subject.groups (RoleOf all) c.empty-roles.result c.empty-roles.ensures.members
 
 pub loop-group-preserved : goal.loop-group-preserved
 loop-group-preserved g c m =
-    let all = contents_of c.args.records.now in
+    let all = c.args.records.now in
     let mine = c.in-Some.subject.groups in
     let n = c.loop-group.group in
     let P : NumberSet → Type 0 = λ s. (k : ℕ) → Iff (In k s) (Upto mine (RoleOf all) (n + 1) k) in
@@ -42,7 +41,7 @@ loop-group-preserved g c m =
 
 pub returns : goal.returns
 returns g c m k =
-    let all = contents_of c.args.records.now in
+    let all = c.args.records.now in
     let mine = c.in-Some.subject.groups in
     let found = ap (λ s. s.groups) (c.in-Some.ensures.1 _) in
     subst (λ (s : NumberSet). Iff (In k c.loop-group.roles) (Exists (λ h. In h s × RoleOf all h k))) found

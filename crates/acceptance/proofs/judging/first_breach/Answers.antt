@@ -1,6 +1,5 @@
 use Rattle.std.proofs.Common.{map, length, sym, refl, subst}
 use Rattle.hierarchy.specs.Order.{Falling}
-use Rattle.book.specs.Contents.{contents_of}
 use Rattle.acceptance.specs.Checks.{up_to, of_view_and_bases, of_pair}
 use Rattle.acceptance.proofs.Firsts.{none_first, first_before, first_behind}
 use Rattle.acceptance.proofs.Inheriting.{falling, few_taken}
@@ -23,12 +22,12 @@ falling_order-views-requires g c =
 
 pub returns-in-Some : goal.returns-in-Some
 returns-in-Some g c =
-    let all = contents_of c.args.records.now in
+    let all = c.args.records.now in
     let n = length all.views in
     first_before (up_to n (of_view_and_bases all)) (up_to n (λ i. up_to n (of_pair all i))) c.in-Some.rejection c.in-Some.ensures
 
 pub returns : goal.returns
 returns g c =
-    let all = contents_of c.args.records.now in
+    let all = c.args.records.now in
     let n = length all.views in
     first_behind (up_to n (of_view_and_bases all)) (up_to n (λ i. up_to n (of_pair all i))) c.pairs_breach.result (none_first (up_to n (of_view_and_bases all)) c.in_default.ensures) c.pairs_breach.ensures

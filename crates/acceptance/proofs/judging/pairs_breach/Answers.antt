@@ -2,12 +2,11 @@ use Rattle.std.proofs.Common.{Some, ap, ◌∙◌}
 use Rattle.records.specs.declared.View.{View}
 use Rattle.acceptance.specs.declared.rejection.Rule.TheVariants.{Clashing}
 use Rattle.acceptance.specs.Rejections.{breach}
-use Rattle.book.specs.Contents.{contents_of}
 use Rattle.acceptance.proofs.Clashing.{pairs_pass, pairs_fail}
 use Rattle.acceptance.proofs.judging.pairs_breach.Goals as goal
 
 pub returns-in_default : goal.returns-in_default
-returns-in_default g c = pairs_pass (contents_of c.args.records.now) c.in_default.ensures
+returns-in_default g c = pairs_pass c.args.records.now c.in_default.ensures
 
 pub returns : goal.returns
-returns g c = pairs_fail (contents_of c.args.records.now) c.in-Some.first c.in-Some.second c.of_two.result (c.of_two.ensures ∙ ap (λ (v : View). breach Clashing v (Some c.in-Some.second)) c.view_of-view.ensures) c.in-Some.ensures
+returns g c = pairs_fail c.args.records.now c.in-Some.first c.in-Some.second c.of_two.result (c.of_two.ensures ∙ ap (λ (v : View). breach Clashing v (Some c.in-Some.second)) c.view_of-view.ensures) c.in-Some.ensures

@@ -1,13 +1,12 @@
 use Rattle.std.proofs.Common.{◌++◌, length, Some, subst}
 use Rattle.records.specs.declared.View.{View}
-use Rattle.book.specs.Contents.{contents_of}
 use Rattle.acceptance.specs.Checks.{First, of_view, of_base, up_to}
 use Rattle.acceptance.proofs.Firsts.{none_first, first_before, first_behind}
 use Rattle.acceptance.proofs.judging.view_breach.Goals as goal
 
 pub returns-in-Some : goal.returns-in-Some
 returns-in-Some g c =
-    let all = contents_of c.args.records.now in
+    let all = c.args.records.now in
     let n = length all.views in
     let v = c.view_of-view.result in
     let e = c.in-Some.rejection in
@@ -15,7 +14,7 @@ returns-in-Some g c =
 
 pub returns : goal.returns
 returns g c =
-    let all = contents_of c.args.records.now in
+    let all = c.args.records.now in
     let n = length all.views in
     let v = c.view_of-view.result in
     let r = c.bases_breach.result in

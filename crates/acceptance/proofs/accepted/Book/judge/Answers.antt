@@ -1,5 +1,4 @@
 use Rattle.std.proofs.Common.{inl, inr}
-use Rattle.book.specs.Contents.{contents_of}
 use Rattle.acceptance.specs.Checks.{checks}
 use Rattle.acceptance.proofs.Firsts.{none_first}
 use Rattle.acceptance.proofs.Deciding.{passes_rules, accepted_by_rules, one_judgement}
@@ -16,7 +15,7 @@ returns-in-Err g c = record {
 
 pub returns-in-Some : goal.returns-in-Some
 returns-in-Some g c = record {
-  judged = inr (contents_of c.in-Ok.records, c.in-Ok.ensures.records, c.in-Some.ensures);
+  judged = inr (c.in-Ok.records, c.in-Ok.ensures.records, c.in-Some.ensures);
   kept = tt;
   single = one_judgement;
   rules = accepted_by_rules;
@@ -24,13 +23,13 @@ returns-in-Some g c = record {
 
 pub invariant_of-result : goal.invariant_of-result
 invariant_of-result g c =
-    let all = contents_of c.in-Ok.records in
+    let all = c.in-Ok.records in
     let declared = c.in-Ok.ensures.declared in
     record { accepted = ∣ (declared, passes_rules all declared (none_first (checks all) c.in_default.ensures)) ∣₁ }
 
 pub returns : goal.returns
 returns g c =
-    let all = contents_of c.in-Ok.records in
+    let all = c.in-Ok.records in
     let declared = c.in-Ok.ensures.declared in
     record {
       judged = (c.in-Ok.ensures.records, c.in_default.ensures);
