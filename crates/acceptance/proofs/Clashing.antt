@@ -8,7 +8,7 @@ use Rattle.std.proofs.lemmas.Bool.{cases_eq}
 use Rattle.sets.specs.declared.NumberSet.{NumberSet}
 use Rattle.hierarchy.specs.Order.{Below}
 use Rattle.hierarchy.specs.Paths.{steps_from}
-use Rattle.book.specs.Contents.{Records}
+use Rattle.book.specs.declared.contents.Records.{Records}
 use Rattle.book.specs.Declarations.{view_at}
 use Rattle.acceptance.specs.Orders.{type_links}
 use Rattle.acceptance.specs.declared.rejection.Rule.TheVariants.{Clashing}

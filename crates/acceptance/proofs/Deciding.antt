@@ -2,7 +2,7 @@
 use Rattle.std.proofs.Common.{◌≡◌, ℕ, ◌<◌, List, length, Some, None, Ok, Err, Option, Result, sym, ap, ◌∙◌, subst, inl, inr, arith}
 use Rattle.sets.specs.Members.{In}
 use Rattle.book.specs.declared.refusal.Fault.{Fault}
-use Rattle.book.specs.Contents.{Records}
+use Rattle.book.specs.declared.contents.Records.{Records}
 use Rattle.book.specs.Declarations.{view_at, Declares}
 use Rattle.book.specs.Form.{reading}
 use Rattle.book.proofs.Declaring.{declares}

@@ -11,7 +11,7 @@ use Rattle.hierarchy.specs.Order.{Below, links_of}
 use Rattle.hierarchy.specs.Paths.{below_refl, below_trans, link_declared}
 use Rattle.hierarchy.proofs.Paths.{below_ind}
 use Rattle.records.specs.declared.View.{View}
-use Rattle.book.specs.Contents.{Records}
+use Rattle.book.specs.declared.contents.Records.{Records}
 use Rattle.book.specs.Declarations.{no_view, view_at, Declares}
 use Rattle.views.specs.Some.{Exists}
 use Rattle.acceptance.specs.Orders.{type_links, role_links, group_links, view_links, OperationOf, RoleOf, MemberOf, SubjectRole}

@@ -1,5 +1,5 @@
 -- What is collected along an order of records.
-use Rattle.std.proofs.Common.{◌≡◌, ℕ, zero, suc, ◌+◌, ◌^◌, ◌<◌, ◌≤◌, ◌⊎◌, List, [], ◌∷◌, map, length, get_or, take, sym, refl, subst, inl, inr, ⊎_elim, arith, length-take}
+use Rattle.std.proofs.Common.{◌≡◌, ℕ, zero, suc, ◌+◌, ◌^◌, ◌<◌, ◌≤◌, ◌⊎◌, List, [], ◌∷◌, map, length, get_or, sym, refl, subst, inl, inr, ⊎_elim, arith}
 use mathlib.Core.Logic.{∥∥₁_map, ∥∥₁_elim}
 use native.Mathlib.Nat.{ℕ_set}
 use Rattle.std.proofs.lemmas.List.{length-map}
@@ -16,8 +16,8 @@ set_at f d e [] i = sym e
 set_at f d e (x ∷ xs) zero = refl
 set_at f d e (x ∷ xs) (suc i) = set_at f d e xs i
 
-pub few_taken : {A : Type 0} (n : ℕ) (xs : List A) → n ≤ 64 → length (take n xs) ≤ 64
-few_taken n xs l = let e = length-take n xs in omega arith
+pub few : {A : Type 0} (xs ys : List A) (n : ℕ) → xs ≡ ys → length xs ≤ n → length ys ≤ n
+few xs ys n e l = subst (λ zs. length zs ≤ n) e l
 
 pub falling : {A : Type 0} (f : A → NumberSet) (d : A) → f d ≡ none → (xs : List A) → length xs ≤ 64 → ((i k : ℕ) → In k (f (get_or xs i d)) → k < i) → Falling (map f xs)
 falling f d e xs l h = (

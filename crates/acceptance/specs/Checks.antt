@@ -2,7 +2,7 @@
 use Rattle.std.specs.Prelude.{◌≡◌, ℕ, zero, suc, ◌<◌, ◌⊎◌, List, [], ◌∷◌, ◌++◌, length, Some, None, Option}
 use Rattle.sets.specs.Members.{In}
 use Rattle.records.specs.declared.View.{View}
-use Rattle.book.specs.Contents.{Records}
+use Rattle.book.specs.declared.contents.Records.{Records}
 use Rattle.book.specs.Declarations.{view_at}
 use Rattle.acceptance.specs.declared.rejection.Rule.TheVariants.{TwoRights, ForeignOperation, AssignableDenial, VirtualRight, ControlledType, RoleRestriction, Requirement, Redefinition, Clashing}
 use Rattle.acceptance.specs.declared.rejection.Rejection.{Rejection}

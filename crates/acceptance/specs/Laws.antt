@@ -3,7 +3,7 @@ use Rattle.std.specs.Prelude.{ℕ, ◌<◌, length}
 use Rattle.sets.specs.Members.{Iff}
 use Rattle.hierarchy.specs.Order.{Below}
 use Rattle.records.specs.declared.View.{View}
-use Rattle.book.specs.Contents.{Records}
+use Rattle.book.specs.declared.contents.Records.{Records}
 use Rattle.book.specs.Declarations.{view_at}
 use Rattle.views.specs.Some.{Exists}
 use Rattle.acceptance.specs.Orders.{view_links, group_links, type_links, OperationOf, RoleOf, MemberOf, SubjectRole}

@@ -3,7 +3,7 @@ use Rattle.std.specs.Prelude.{ℕ, List, map}
 use Rattle.sets.specs.declared.NumberSet.{NumberSet}
 use Rattle.sets.specs.Members.{In}
 use Rattle.hierarchy.specs.Order.{Below}
-use Rattle.book.specs.Contents.{Records}
+use Rattle.book.specs.declared.contents.Records.{Records}
 use Rattle.book.specs.Declarations.{type_at, group_at, subject_at}
 use Rattle.views.specs.Some.{Exists}
 

@@ -3,7 +3,7 @@ use Rattle.std.specs.Prelude.{ℕ, ◌<◌, length}
 use Rattle.sets.specs.Members.{In}
 use Rattle.hierarchy.specs.Order.{Below}
 use Rattle.records.specs.declared.View.{View}
-use Rattle.book.specs.Contents.{Records}
+use Rattle.book.specs.declared.contents.Records.{Records}
 use Rattle.book.specs.Declarations.{view_at, Declares}
 use Rattle.views.specs.Some.{Exists}
 use Rattle.views.specs.ViewRules.{OneRight, AssignableDeniesNothing, VirtualHasNone, Restricted, RequirementsFollow, RightsFollow, Opposed}

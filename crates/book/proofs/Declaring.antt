@@ -12,7 +12,8 @@ use Rattle.book.specs.declared.phase.Phase.TheVariants.{Types, Roles, Groups, Vi
 use Rattle.book.specs.declared.refusal.Refusal.{Refusal}
 use Rattle.book.specs.declared.refusal.Fault.{Fault}
 use Rattle.book.specs.Layout.{Field, names, operations, controlled, modifiers, width, layout, terms_fields, rights_fields}
-use Rattle.book.specs.Contents.{Record, AType, ARole, AGroup, AView, ASubject, Records, nothing, count, filed, filed_all}
+use Rattle.book.specs.declared.contents.Records.{Records}
+use Rattle.book.specs.Contents.{Record, AType, ARole, AGroup, AView, ASubject, nothing, count, filed, filed_all}
 use Rattle.book.specs.Form.{marked, piece, pieces, behind, wrong, wrong_next, wrong_names, wrong_controlled, or_else, first_wrong, Cut, whole, broken, cut, record_from, State, start, advanced, after_fields, after_cut, records_in, form, filing, reading}
 use Rattle.book.specs.Declarations.{Declares, no_view}
 use Rattle.book.proofs.Fieldwise.{Needed}

@@ -10,7 +10,8 @@ use Rattle.book.specs.declared.refusal.Refusal.{Refusal}
 use Rattle.book.specs.declared.refusal.Refusal.TheVariants.{Size, Version}
 use Rattle.book.specs.declared.refusal.Fault.{Fault}
 use Rattle.book.specs.Layout.{kind_of, limit, layout, needs_first}
-use Rattle.book.specs.Contents.{Record, AType, ARole, AGroup, AView, ASubject, Records, nothing, count, phase_of, filed_all}
+use Rattle.book.specs.declared.contents.Records.{Records}
+use Rattle.book.specs.Contents.{Record, AType, ARole, AGroup, AView, ASubject, nothing, count, phase_of, filed_all}
 use Rattle.book.specs.Encoding.{fields_of, map_of, together, encode_record, encode}
 use Rattle.book.specs.Form.{marked, span, pieces, first_wrong, Cut, whole, broken, cut, record_from, State, start, advanced, prepended, after_fields, after_cut, records_in, after_opening, form, filing, reading}
 use Rattle.book.specs.FormRules.{Next, Ordered, Formed}

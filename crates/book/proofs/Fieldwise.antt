@@ -4,7 +4,8 @@ use Rattle.std.specs.Int.Digits.{AllBelowBase}
 use Rattle.book.specs.declared.phase.Phase.{Phase}
 use Rattle.book.specs.declared.phase.Phase.TheVariants.{Types, Roles, Groups, Views, Subjects}
 use Rattle.book.specs.Layout.{layout, needs_first}
-use Rattle.book.specs.Contents.{Record, AType, ARole, AGroup, AView, ASubject, Records, phase_of, place_of}
+use Rattle.book.specs.declared.contents.Records.{Records}
+use Rattle.book.specs.Contents.{Record, AType, ARole, AGroup, AView, ASubject, phase_of, place_of}
 use Rattle.book.specs.Encoding.{fields_of, encode_record}
 use Rattle.book.specs.Form.{record_from}
 use Rattle.book.specs.FormRules.{Ranged}

@@ -8,7 +8,8 @@ use Rattle.book.specs.declared.refusal.Refusal.{Refusal}
 use Rattle.book.specs.declared.refusal.Fault.{Fault}
 use Rattle.book.specs.declared.position.Position.{Position}
 use Rattle.book.specs.Layout.{Field, width, layout, limit, kind_of}
-use Rattle.book.specs.Contents.{Record, Records, nothing, count, filed}
+use Rattle.book.specs.declared.contents.Records.{Records}
+use Rattle.book.specs.Contents.{Record, nothing, count, filed}
 use Rattle.book.specs.Form.{marked, span, pieces, wrong, or_else, first_wrong, cut, record_from, State, prepended, after_cut, after_fields, records_in, filing, opening, after_opening, reading}
 use Rattle.book.specs.FormLaws.{numbered}
 use Rattle.book.specs.Reading.{Handed, Hands, passed}

@@ -5,7 +5,8 @@ use Rattle.std.proofs.lemmas.Bool.{eq-eqb, ne_eqb, cases_eq}
 use Rattle.book.specs.declared.phase.Phase.{Phase}
 use Rattle.book.specs.declared.phase.Phase.TheVariants.{Types, Roles, Groups, Views, Subjects}
 use Rattle.book.specs.Layout.{kind_of, kind_named}
-use Rattle.book.specs.Contents.{Record, AType, ARole, AGroup, AView, ASubject, Records, nothing, count, filed, phase_of}
+use Rattle.book.specs.declared.contents.Records.{Records}
+use Rattle.book.specs.Contents.{Record, AType, ARole, AGroup, AView, ASubject, nothing, count, filed, phase_of}
 use Rattle.book.specs.Form.{opened, cut_as, cut, extent}
 use Rattle.book.specs.FormLaws.{numbered}
 use Rattle.book.proofs.Cuts.{kind_named_lem, opened_kind}

@@ -15,7 +15,8 @@ use Rattle.book.specs.declared.phase.Phase.{Phase}
 use Rattle.book.specs.declared.phase.Phase.TheVariants.{Types}
 use Rattle.book.specs.declared.refusal.Refusal.TheVariants.{Empty, Undeclared}
 use Rattle.book.specs.Layout.{Field, names, operations, controlled, modifiers, denials, width}
-use Rattle.book.specs.Contents.{Records, count}
+use Rattle.book.specs.declared.contents.Records.{Records}
+use Rattle.book.specs.Contents.{count}
 use Rattle.book.specs.Encoding.{set_field, pair_field, byte_field}
 use Rattle.book.specs.Form.{wrong}
 use Rattle.book.specs.FormRules.{Word, Declared}

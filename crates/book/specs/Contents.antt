@@ -4,7 +4,7 @@ use Rattle.book.specs.declared.phase.Phase.{Phase}
 use Rattle.book.specs.declared.phase.Phase.TheVariants.{Types, Roles, Groups, Views, Subjects}
 pub use Rattle.records.specs.declared.Record.{Record}
 pub use Rattle.records.specs.declared.Record.TheVariants.{AType, ARole, AGroup, AView, ASubject}
-pub use Rattle.book.specs.declared.contents.Records.{Records}
+use Rattle.book.specs.declared.contents.Records.{Records}
 
 -- the kind of a record
 abbrev pub phase_of : Record → Phase

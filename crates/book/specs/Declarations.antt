@@ -6,7 +6,7 @@ use Rattle.records.specs.declared.RoleRecord.{RoleRecord}
 use Rattle.records.specs.declared.GroupRecord.{GroupRecord}
 use Rattle.records.specs.declared.View.{View}
 use Rattle.records.specs.declared.SubjectRecord.{SubjectRecord}
-use Rattle.book.specs.Contents.{Records}
+use Rattle.book.specs.declared.contents.Records.{Records}
 
 -- the type of a number; one with no link and no operation where none is declared
 abbrev pub type_at : Records → ℕ → TypeRecord

@@ -15,7 +15,8 @@ use Rattle.records.specs.declared.View.{View}
 use Rattle.book.specs.declared.contents.Terms.{Terms}
 use Rattle.records.specs.declared.SubjectRecord.{SubjectRecord}
 use Rattle.book.specs.Layout.{kind_of, kind_named, limit, Field, names, operations, controlled, modifiers, denials, layout, width, needs_first}
-use Rattle.book.specs.Contents.{Record, AType, ARole, AGroup, AView, ASubject, Records, nothing, count, filed, filed_all}
+use Rattle.book.specs.declared.contents.Records.{Records}
+use Rattle.book.specs.Contents.{Record, AType, ARole, AGroup, AView, ASubject, nothing, count, filed, filed_all}
 
 -- the kind of the next record after one of kind p: kinds never go down
 abbrev pub opened : Phase → ℕ → Option Phase

@@ -6,7 +6,8 @@ use Rattle.book.specs.declared.phase.Phase.{Phase}
 use Rattle.book.specs.declared.phase.Phase.TheVariants.{Types}
 use Rattle.book.specs.Layout.{kind_of}
 use Rattle.book.specs.declared.refusal.Fault.{Fault}
-use Rattle.book.specs.Contents.{Record, Records, nothing, filed_all}
+use Rattle.book.specs.declared.contents.Records.{Records}
+use Rattle.book.specs.Contents.{Record, nothing, filed_all}
 use Rattle.book.specs.Encoding.{encode, together}
 use Rattle.book.specs.Form.{form, cut, Cut, whole, broken}
 use Rattle.book.specs.FormRules.{Formed}

@@ -5,7 +5,8 @@ use Rattle.sets.specs.Members.{In}
 use Rattle.book.specs.declared.phase.Phase.{Phase}
 use Rattle.book.specs.declared.phase.Phase.TheVariants.{Types, Roles, Groups, Views}
 use Rattle.book.specs.Layout.{kind_of, limit}
-use Rattle.book.specs.Contents.{Record, AType, ARole, AGroup, AView, ASubject, Records, count, phase_of, place_of}
+use Rattle.book.specs.declared.contents.Records.{Records}
+use Rattle.book.specs.Contents.{Record, AType, ARole, AGroup, AView, ASubject, count, phase_of, place_of}
 use Rattle.book.specs.Encoding.{encode_record, encode}
 use Rattle.book.specs.Form.{State, start, advanced}
 

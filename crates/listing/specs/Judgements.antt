@@ -1,6 +1,6 @@
 -- What a judgement of a book says.
 use Rattle.std.specs.Prelude.{ℕ, List, Ok, Err}
-use Rattle.book.specs.Contents.{Records}
+use Rattle.book.specs.declared.contents.Records.{Records}
 use Rattle.acceptance.specs.Judgement.{Judged}
 use Rattle.listing.specs.declared.judgement.Judgement.{Judgement}
 use Rattle.listing.specs.declared.judgement.Judgement.TheVariants.{Accepted, Rejected}

@@ -1,7 +1,7 @@
 -- The judgement of a book, computed.
 use Rattle.std.proofs.Common.{◌≡◌, ℕ, Bool, true, List, Some, None, Ok, Err, Option, Result, refl, inl, inr}
 use Rattle.book.specs.declared.refusal.Fault.{Fault}
-use Rattle.book.specs.Contents.{Records}
+use Rattle.book.specs.declared.contents.Records.{Records}
 use Rattle.book.specs.Form.{reading}
 use Rattle.book.proofs.Declaring.{declares}
 use Rattle.acceptance.specs.declared.rejection.Rejection.{Rejection}

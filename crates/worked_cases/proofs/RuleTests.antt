@@ -7,7 +7,7 @@ use Rattle.sets.specs.Members.{Bit, In, Iff, none}
 use Rattle.hierarchy.specs.Order.{Falling, Below}
 use Rattle.hierarchy.specs.Paths.{below_within}
 use Rattle.records.specs.declared.View.{View}
-use Rattle.book.specs.Contents.{Records}
+use Rattle.book.specs.declared.contents.Records.{Records}
 use Rattle.book.specs.Declarations.{Declares, type_at, view_at, no_view}
 use Rattle.acceptance.specs.declared.rejection.Rule.TheVariants.{TwoRights, ForeignOperation, AssignableDenial, VirtualRight, ControlledType, RoleRestriction, Requirement, Redefinition, Clashing}
 use Rattle.views.specs.Some.{Exists}

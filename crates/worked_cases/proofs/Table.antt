@@ -2,7 +2,7 @@
 use Rattle.std.proofs.Common.{◌≡◌, ℕ, Bool, true, false, ◌&&◌, eqb, List, [], ◌∷◌, Some, None, Option, Result, refl, ap}
 use Rattle.std.proofs.lemmas.Bool.{and_parts, eqb-true, false≢true}
 use Rattle.book.specs.declared.refusal.Fault.{Fault}
-use Rattle.book.specs.Contents.{Records}
+use Rattle.book.specs.declared.contents.Records.{Records}
 use Rattle.book.specs.Form.{reading}
 use Rattle.worked_cases.specs.Table.{Outcome, accepted, rejected, outcome_of, Row, ComesOut, EachComesOut, rows, AllComeOut}
 use Rattle.worked_cases.proofs.Judging.{judgement_of, read_sized, judged_of}

@@ -1,7 +1,7 @@
 -- Worked cases: books, and what must come out of each.
 use Rattle.std.specs.Prelude.{◌≡◌, ℕ, List, [], ◌∷◌, ◌++◌, Some, Ok, Err, Option, Result}
 use Rattle.sets.specs.Bytes.{bytes_in}
-use Rattle.book.specs.Contents.{Records}
+use Rattle.book.specs.declared.contents.Records.{Records}
 use Rattle.book.specs.Encoding.{together}
 use Rattle.acceptance.specs.declared.rejection.Rejection.{Rejection}
 use Rattle.acceptance.specs.Rejections.{reason_number}
