@@ -1,3 +1,4 @@
 pub mod Membership
 pub mod Counts
 pub mod ByteValues
+pub mod Rising
