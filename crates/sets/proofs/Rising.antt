@@ -1,8 +1,10 @@
 -- The members of a set, as a list in rising order.
-use Rattle.std.proofs.Common.{◌≡◌, ◌≢◌, ℕ, zero, suc, ◌+◌, ◌<◌, ◌≤◌, Bool, true, false, [], ◌∷◌, refl, ap, ◌∙◌, ⊎_elim, arith}
-use Rattle.std.specs.List.{range_with_len, filter}
-use Rattle.std.proofs.lemmas.Bool.{cases_eq, eqb-true, eq-eqb, false_from_ne_true}
+use Rattle.std.proofs.Common.{◌≡◌, ◌≢◌, ℕ, zero, suc, ◌+◌, ◌<◌, ◌≤◌, ◌^◌, Bool, true, false, [], ◌∷◌, refl, ap, ◌∙◌, ⊎_elim, arith}
+use Rattle.std.specs.List.{range_with_len, filter, Contains}
+use Rattle.std.proofs.lemmas.Bool.{cases_eq, eqb-true, eq-eqb, false_from_ne_true, cases_Bool}
 use Rattle.std.proofs.lemmas.Bool.Decides.{same_from_decides, Decides-eqb, Decides-like}
+use Rattle.std.proofs.lemmas.List.Elements.{All-contains, Contains-append_right, filter_passes}
+use Rattle.sets.proofs.Membership.{below}
 use Rattle.sets.specs.declared.NumberSet.{NumberSet}
 use Rattle.sets.specs.Members.{In, Iff, has, members}
 
@@ -39,3 +41,25 @@ unfolding members
 members_first s t i l m low h =
     first_passes (has s) (has t) 0 64 i (omega arith) (omega arith) (λ k b. untrue s k (low k b)) (eq-eqb _ _ m) (untrue t i (λ b. ((h i).0 b).1 refl))
     (λ k n. same_from_decides _ _ (Decides-like _ (λ b. ((h k).0 b).0) (λ b. (h k).1 (b, n)) (Decides-eqb _ 1)) (Decides-eqb _ 1))
+
+-- a number that passes is among those that are left
+passes_there : (p : ℕ → Bool) (a n k : ℕ) → a ≤ k → k < a + n → p k ≡ true → Contains (filter p (range_with_len a n)) k
+passes_there p a zero k l m h = absurd (omega arith)
+passes_there p a (suc n) k l m h =
+    ⊎_elim
+    (λ e. let y : p a ≡ true = ap p e ∙ h in rw y (0, omega arith, e))
+    (λ d.
+    let rest = passes_there p (a + 1) n k (omega (arith, d)) (omega arith) h in
+    ⊎_elim
+    (λ y. rw y (Contains-append_right (a ∷ []) (filter p (range_with_len (a + 1) n)) k rest))
+    (λ y. rw y rest)
+    (cases_Bool (p a)))
+    (cases_eq a k)
+
+pub member_of : (s : NumberSet) (k : ℕ) → Contains (members s) k → In k s
+unfolding members
+member_of s k h = eqb-true _ _ (All-contains (λ x. has s x ≡ true) (members s) k (filter_passes (has s) (range_with_len 0 64)) h)
+
+pub members_has : (s : NumberSet) (k : ℕ) → s.bits < 2 ^ 64 → In k s → Contains (members s) k
+unfolding members
+members_has s k l h = passes_there (has s) 0 64 k (omega arith) ((below 64 s.bits).0 l k h) (eq-eqb _ _ h)
