@@ -2,3 +2,4 @@ pub mod Membership
 pub mod Counts
 pub mod ByteValues
 pub mod Rising
+pub mod Gathering
