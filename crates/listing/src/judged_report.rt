@@ -2,7 +2,7 @@
 ghost use Rattle.listing.specs.JudgedReports.{JudgedReports};
 
 use crate::inheriting::{write_subjects, write_types};
-use crate::refused::{write_fault, write_rejection};
+use crate::refused::write_rejection;
 use crate::report::{write_counts, write_table};
 use acceptance::accepted::Book;
 use acceptance::rejection::Rejection;
@@ -57,7 +57,7 @@ impl fmt::Display for JudgedReport {
                 write_records(f, records)?;
                 write_rejection(f, records.views.as_slice(), *rejection)
             }
-            JudgedReport::Refused(fault) => write_fault(f, *fault),
+            JudgedReport::Refused(fault) => writeln!(f, "{fault}"),
         }
     }
 }

@@ -27,7 +27,7 @@ pub fn judgement_of<H: Hierarchy + Drop>(book: &[u8]) -> Judgement
 
 // The line of a rejection.
 fn write_rejected<W: fmt::Write>(f: &mut fmt::Formatter<W>, rejection: Rejection) -> fmt::Result {
-    let number = rejection.reason.number();
+    let number = u8::from(rejection.reason);
     let place = rejection.place;
     match rejection.other {
         Some(other) => write!(f, "book no {number} {place} {other}"),

@@ -7,4 +7,3 @@ pub mod judgement;
 mod lines;
 mod refused;
 pub mod report;
-mod words;

@@ -3,9 +3,7 @@ ghost use Rattle.std.specs.Prelude.{◌≡◌, ◌<◌, length, MatchOption, sli
 ghost use Rattle.book.specs.Declarations.{no_view};
 ghost use Rattle.listing.specs.JudgedReports.{NoneAt};
 
-use crate::words::{explanation, rule_words};
 use acceptance::rejection::{Reason, Rejection, Rule};
-use book::refusal::Fault;
 use records::View;
 use std::fmt;
 
@@ -36,33 +34,21 @@ fn write_views<W: fmt::Write>(
     }
 }
 
-// The number and the place of a refusal.
-fn write_number<W: fmt::Write>(f: &mut fmt::Formatter<W>, number: u8, place: usize) -> fmt::Result {
-    write!(f, "refused {number} at {place}: ")
-}
-
-/// A refusal of the form, and what it means.
-pub(crate) fn write_fault<W: fmt::Write>(f: &mut fmt::Formatter<W>, fault: Fault) -> fmt::Result {
-    write_number(f, fault.refusal.number(), fault.place)?;
-    let why = explanation(fault.refusal);
-    writeln!(f, "{why}")
-}
-
 /// A rejection, the views that it is about, and what it means.
 pub(crate) fn write_rejection<W: fmt::Write>(
     f: &mut fmt::Formatter<W>,
     views: &[View],
     rejection: Rejection,
 ) -> fmt::Result {
-    write_number(f, rejection.reason.number(), rejection.place)?;
-    let why = match rejection.reason {
-        Reason::OfForm(refusal) => explanation(refusal),
+    let number = u8::from(rejection.reason);
+    write!(f, "refused {number} at {}: ", rejection.place)?;
+    match rejection.reason {
+        Reason::OfForm(refusal) => writeln!(f, "{refusal}"),
         Reason::OfRule(rule) => {
             if let Some(view) = view_at(views, rejection.place) {
                 write_views(f, view, rule, rejection.other)?;
             }
-            rule_words(rule)
+            writeln!(f, "{rule}")
         }
-    };
-    writeln!(f, "{why}")
+    }
 }

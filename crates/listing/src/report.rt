@@ -2,7 +2,6 @@
 ghost use Rattle.listing.specs.Reports.{Reports};
 
 use crate::lines::Line;
-use crate::refused::write_fault;
 use book::contents::Records;
 use book::read::read;
 use book::refusal::Fault;
@@ -71,7 +70,7 @@ impl fmt::Display for Report {
     fn fmt<W: fmt::Write>(&self, f: &mut fmt::Formatter<W>) -> fmt::Result {
         match self {
             Report::Listed(records) => write_records(f, records),
-            Report::Refused(fault) => write_fault(f, *fault),
+            Report::Refused(fault) => writeln!(f, "{fault}"),
         }
     }
 }
