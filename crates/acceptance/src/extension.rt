@@ -44,16 +44,16 @@ fn base_breach<H: Hierarchy>(
     }
     let base = view_of(records, number);
     if !types.at_or_below(view.controlled as usize, base.controlled as usize) {
-        return Some(Rejection::of_two(Rule::ControlledType, view, number));
+        return Some(Rejection::of_rule(Rule::ControlledType, view, Some(number)));
     }
     if !restriction_follows(records, roles, view, &base) {
-        return Some(Rejection::of_two(Rule::RoleRestriction, view, number));
+        return Some(Rejection::of_rule(Rule::RoleRestriction, view, Some(number)));
     }
     if !requirements_follow(view, &base) {
-        return Some(Rejection::of_two(Rule::Requirement, view, number));
+        return Some(Rejection::of_rule(Rule::Requirement, view, Some(number)));
     }
     if !rights_follow(view, &base) {
-        return Some(Rejection::of_two(Rule::Redefinition, view, number));
+        return Some(Rejection::of_rule(Rule::Redefinition, view, Some(number)));
     }
     None
 }

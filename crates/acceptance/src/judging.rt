@@ -56,7 +56,7 @@ fn pairs_breach<H: Hierarchy>(records: &Records, types: &H, views: &H) -> Option
         return None;
     };
     let view = view_of(records, first);
-    Some(Rejection::of_two(Rule::Clashing, &view, second))
+    Some(Rejection::of_rule(Rule::Clashing, &view, Some(second)))
 }
 
 /// The first rule that the records break.

@@ -32,16 +32,16 @@ pub(crate) fn own_breach<H: Hierarchy>(
     ensures { First (of_view records.now view.now) result }
 {
     if !has_one_right(view) {
-        return Some(Rejection::of_view(Rule::TwoRights, view));
+        return Some(Rejection::of_rule(Rule::TwoRights, view, None));
     }
     if !has_own_operations(records, types, view) {
-        return Some(Rejection::of_view(Rule::ForeignOperation, view));
+        return Some(Rejection::of_rule(Rule::ForeignOperation, view, None));
     }
     if !keeps_assignable(view) {
-        return Some(Rejection::of_view(Rule::AssignableDenial, view));
+        return Some(Rejection::of_rule(Rule::AssignableDenial, view, None));
     }
     if !keeps_virtual(view) {
-        return Some(Rejection::of_view(Rule::VirtualRight, view));
+        return Some(Rejection::of_rule(Rule::VirtualRight, view, None));
     }
     None
 }

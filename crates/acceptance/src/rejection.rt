@@ -1,12 +1,14 @@
 //! What a book is rejected for.
-ghost use Rattle.std.specs.Prelude.{◌≡◌, Some, None};
+ghost use Rattle.std.specs.Prelude.{◌≡◌};
 ghost use Rattle.acceptance.specs.Rejections.{rule_number, reason_number, breach, form_fault};
+ghost use Rattle.acceptance.specs.declared.rejection.Reason.TheVariants.{OfForm, OfRule};
 
 use book::refusal::{Fault, Refusal};
 use records::View;
+use std::fmt;
 
 /// A rule that the records of a book have to keep. Each has the number that users see.
-#[derive(Clone, Copy)]
+#[derive(Clone, Copy, PartialEq, Eq, Debug)]
 pub enum Rule {
     /// An operation has two rights in the view.
     TwoRights = 11,
@@ -28,73 +30,102 @@ pub enum Rule {
     Clashing = 19,
 }
 
-impl Rule {
-    /// The number that users see.
-    pub fn number(self) -> u8
-        ensures { result ≡ rule_number self }
-    {
-        self as u8
+/// The number that users see.
+impl From<Rule> for u8 {
+    ghost from_gives = { λ rule number. number ≡ rule_number rule };
+
+    fn from(rule: Rule) -> u8 {
+        rule as u8
+    }
+}
+
+/// How the rule is broken.
+impl fmt::Display for Rule {
+    fn fmt<W: fmt::Write>(&self, f: &mut fmt::Formatter<W>) -> fmt::Result {
+        f.write_str(match self {
+            Rule::TwoRights => "an operation has two rights",
+            Rule::ForeignOperation =>
+                "a right is for an operation that the controlled type does not have",
+            Rule::AssignableDenial => "the view is assignable and has a denial",
+            Rule::VirtualRight => "the view is virtual and has a right",
+            Rule::ControlledType => "the controlled type is not at or below that of the base",
+            Rule::RoleRestriction =>
+                "the base is restricted, and the view is not, or names a role that is at or below none of the base's",
+            Rule::Requirement =>
+                "a required view of the base is missing, or the base is static and the view is not",
+            Rule::Redefinition =>
+                "a right of the base is missing or changed in a way that is not allowed, or a new right denies",
+            Rule::Clashing =>
+                "one strongly permits an operation that the other strongly denies, and a type lies at or below both controlled types",
+        })
     }
 }
 
 /// Why a book is rejected: its form, or a rule.
-#[derive(Clone, Copy)]
+#[derive(Clone, Copy, PartialEq, Eq, Debug)]
 pub enum Reason {
     OfForm(Refusal),
     OfRule(Rule),
 }
 
-impl Reason {
-    /// The number that users see.
-    pub fn number(self) -> u8
-        ensures { result ≡ reason_number self }
-    {
-        match self {
-            Reason::OfForm(refusal) => refusal.number(),
-            Reason::OfRule(rule) => rule.number(),
+impl From<Refusal> for Reason {
+    ghost from_gives = { λ refusal reason. reason ≡ OfForm refusal };
+
+    fn from(refusal: Refusal) -> Reason {
+        Reason::OfForm(refusal)
+    }
+}
+
+impl From<Rule> for Reason {
+    ghost from_gives = { λ rule reason. reason ≡ OfRule rule };
+
+    fn from(rule: Rule) -> Reason {
+        Reason::OfRule(rule)
+    }
+}
+
+/// The number that users see.
+impl From<Reason> for u8 {
+    ghost from_gives = { λ reason number. number ≡ reason_number reason };
+
+    fn from(reason: Reason) -> u8 {
+        match reason {
+            Reason::OfForm(refusal) => u8::from(refusal),
+            Reason::OfRule(rule) => u8::from(rule),
         }
     }
 }
 
 /// A rejection: why, the place of the record in the book, and for two views the other one's number.
-#[derive(Clone, Copy)]
+#[derive(Clone, Copy, PartialEq, Eq, Debug)]
 pub struct Rejection {
     pub reason: Reason,
     pub place: usize,
     pub other: Option<usize>,
 }
 
-impl Rejection {
-    /// The form is refused.
-    pub(crate) fn of_form(fault: Fault) -> Rejection
-        ensures { result ≡ form_fault fault }
-    {
+/// The form is refused.
+impl From<Fault> for Rejection {
+    ghost from_gives = { λ fault rejection. rejection ≡ form_fault fault };
+
+    fn from(fault: Fault) -> Rejection {
         Rejection {
-            reason: Reason::OfForm(fault.refusal),
+            reason: fault.refusal.into(),
             place: fault.place,
             other: None,
         }
     }
+}
 
-    /// A view breaks a rule by itself.
-    pub(crate) fn of_view(rule: Rule, view: &View) -> Rejection
-        ensures { result ≡ breach rule view.now None }
+impl Rejection {
+    /// A view breaks a rule, by itself or against another.
+    pub(crate) fn of_rule(rule: Rule, view: &View, other: Option<usize>) -> Rejection
+        ensures { result ≡ breach rule view.now other }
     {
         Rejection {
-            reason: Reason::OfRule(rule),
+            reason: rule.into(),
             place: view.place,
-            other: None,
-        }
-    }
-
-    /// A view breaks a rule against another.
-    pub(crate) fn of_two(rule: Rule, view: &View, other: usize) -> Rejection
-        ensures { result ≡ breach rule view.now (Some other) }
-    {
-        Rejection {
-            reason: Reason::OfRule(rule),
-            place: view.place,
-            other: Some(other),
+            other,
         }
     }
 }

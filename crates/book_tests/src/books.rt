@@ -9,7 +9,7 @@ pub fn check_refused(book: &[u8], number: u8, place: usize) -> Result<(), Fail> 
     match read(book) {
         Ok(_) => Err(Fail::new("the book passed")),
         Err(fault) => {
-            check_eq(fault.refusal.number(), number)?;
+            check_eq(u8::from(fault.refusal), number)?;
             check_eq(fault.place, place)
         }
     }

@@ -16,7 +16,7 @@ fn check_through<H: Hierarchy + Drop>(
     match Book::judge::<H>(book) {
         Ok(_) => Err(Fail::new("the book is accepted")),
         Err(rejection) => {
-            check_eq(rejection.reason.number(), number)?;
+            check_eq(u8::from(rejection.reason), number)?;
             check_eq(rejection.place, place)?;
             check_eq(rejection.other, other)
         }

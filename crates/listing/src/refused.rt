@@ -1,11 +1,9 @@
-//! Why a book is refused, as a line of text.
+//! Why a book is rejected, as text for its author.
 ghost use Rattle.std.specs.Prelude.{◌≡◌, ◌<◌, length, MatchOption, slice_index_or};
 ghost use Rattle.book.specs.Declarations.{no_view};
 ghost use Rattle.listing.specs.JudgedReports.{NoneAt};
 
-use crate::words::{explanation, rule_words};
 use acceptance::rejection::{Reason, Rejection, Rule};
-use book::refusal::Fault;
 use records::View;
 use std::fmt;
 
@@ -13,12 +11,14 @@ use std::fmt;
 fn view_at(views: &[View], place: usize) -> Option<usize>
     ensures { MatchOption result (NoneAt views.now place (length views.now)) (λ n. (n < length views.now) × ((slice_index_or views.now n no_view).place ≡ place) × NoneAt views.now place n) }
 {
-    for number in 0..views.len() {
-        if views[number].place == place {
-            return Some(number);
-        }
-    }
-    None
+    views.iter().position(|view| view.place == place)
+}
+
+/// A rejection, the views that it is about, and what it means.
+#[derive(Clone, Copy)]
+pub(crate) struct Explained<'a> {
+    pub views: &'a [View],
+    pub rejection: Rejection,
 }
 
 // The views that break the rule.
@@ -36,33 +36,23 @@ fn write_views<W: fmt::Write>(
     }
 }
 
-// The number and the place of a refusal.
-fn write_number<W: fmt::Write>(f: &mut fmt::Formatter<W>, number: u8, place: usize) -> fmt::Result {
-    write!(f, "refused {number} at {place}: ")
-}
-
-/// A refusal of the form, and what it means.
-pub(crate) fn write_fault<W: fmt::Write>(f: &mut fmt::Formatter<W>, fault: Fault) -> fmt::Result {
-    write_number(f, fault.refusal.number(), fault.place)?;
-    let why = explanation(fault.refusal);
-    writeln!(f, "{why}")
-}
-
-/// A rejection, the views that it is about, and what it means.
-pub(crate) fn write_rejection<W: fmt::Write>(
-    f: &mut fmt::Formatter<W>,
-    views: &[View],
-    rejection: Rejection,
-) -> fmt::Result {
-    write_number(f, rejection.reason.number(), rejection.place)?;
-    let why = match rejection.reason {
-        Reason::OfForm(refusal) => explanation(refusal),
-        Reason::OfRule(rule) => {
-            if let Some(view) = view_at(views, rejection.place) {
-                write_views(f, view, rule, rejection.other)?;
+impl fmt::Display for Explained<'_> {
+    fn fmt<W: fmt::Write>(&self, f: &mut fmt::Formatter<W>) -> fmt::Result {
+        let Rejection {
+            reason,
+            place,
+            other,
+        } = self.rejection;
+        let number = u8::from(reason);
+        write!(f, "refused {number} at {place}: ")?;
+        match reason {
+            Reason::OfForm(refusal) => write!(f, "{refusal}"),
+            Reason::OfRule(rule) => {
+                if let Some(view) = view_at(self.views, place) {
+                    write_views(f, view, rule, other)?;
+                }
+                write!(f, "{rule}")
             }
-            rule_words(rule)
         }
-    };
-    writeln!(f, "{why}")
+    }
 }

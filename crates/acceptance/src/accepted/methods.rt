@@ -30,10 +30,7 @@ impl Book {
         ensures single { OneJudgement }
         ensures rules { AcceptedByRules }
     {
-        let records = match read(bytes) {
-            Ok(records) => records,
-            Err(fault) => return Err(Rejection::of_form(fault)),
-        };
+        let records = read(bytes)?;
         if let Some(rejection) = first_breach::<H>(&records) {
             return Err(rejection);
         }

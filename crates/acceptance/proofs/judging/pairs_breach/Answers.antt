@@ -9,4 +9,4 @@ pub returns-in_default : goal.returns-in_default
 returns-in_default g c = pairs_pass c.args.records.now c.in_default.ensures
 
 pub returns : goal.returns
-returns g c = pairs_fail c.args.records.now c.in-Some.first c.in-Some.second c.of_two.result (c.of_two.ensures ∙ ap (λ (v : View). breach Clashing v (Some c.in-Some.second)) c.view_of-view.ensures) c.in-Some.ensures
+returns g c = pairs_fail c.args.records.now c.in-Some.first c.in-Some.second c.of_rule.result (c.of_rule.ensures ∙ ap (λ (v : View). breach Clashing v (Some c.in-Some.second)) c.view_of-view.ensures) c.in-Some.ensures
