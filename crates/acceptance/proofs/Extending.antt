@@ -58,9 +58,9 @@ strong_stays v w k strong_denial o s h = ∥∥₁_elim (k strong_denial o h) (�
 -- where a view denies, its base denies too, if it has a right at all
 base_denies : (v w : View) → OneRight v → RightsKept v w → (x y : Right) (o : ℕ) → Denies y → Has v y o → Has w x o → Denies x
 base_denies v w one k weak_permission y o d h m =
-    ∥∥₁_elim (k weak_permission o m) ⊥_prop (λ p. (one_apart v one).modes o (stays_permission v o p.0 p.1.0 p.1.1) (y, d, h))
+    ∥∥₁_elim (k weak_permission o m) ⊥_prop (λ p. (one_apart v one).1 o (stays_permission v o p.0 p.1.0 p.1.1) (y, d, h))
 base_denies v w one k strong_permission y o d h m =
-    ∥∥₁_elim (k strong_permission o m) ⊥_prop (λ p. (one_apart v one).modes o (inr (stays_permitted v o p.0 p.1.0 p.1.1)) (y, d, h))
+    ∥∥₁_elim (k strong_permission o m) ⊥_prop (λ p. (one_apart v one).1 o (inr (stays_permitted v o p.0 p.1.0 p.1.1)) (y, d, h))
 base_denies v w one k weak_denial y o d h m = tt
 base_denies v w one k strong_denial y o d h m = tt
 

@@ -1,2 +1,3 @@
-pub mod Tested
+pub mod Ranging
+pub mod Chained
 pub mod Rightwise

@@ -17,17 +17,9 @@ pub fn requirements_follow(view: &View, base: &View) -> bool
 pub fn rights_follow(view: &View, base: &View) -> bool
     ensures { Iff (result ≡ true) (RightsFollow view.now base.now) }
 {
-    if !base.weak.permitted.is_subset(permissions(view)) {
-        return false;
-    }
-    if !base.strong.permitted.is_subset(view.strong.permitted) {
-        return false;
-    }
-    if !base.weak.denied.is_subset(rights(view)) {
-        return false;
-    }
-    if !base.strong.denied.is_subset(view.strong.denied) {
-        return false;
-    }
-    denials(view).is_subset(rights(base))
+    base.weak.permitted.is_subset(permissions(view))
+        && base.strong.permitted.is_subset(view.strong.permitted)
+        && base.weak.denied.is_subset(rights(view))
+        && base.strong.denied.is_subset(view.strong.denied)
+        && denials(view).is_subset(rights(base))
 }

@@ -11,8 +11,6 @@ use records::View;
 pub fn are_opposed(view: &View, other: &View) -> bool
     ensures { Iff (result ≡ true) (Exists (λ o. Opposed view.now other.now o)) }
 {
-    if has_member(view.strong.permitted.intersection(other.strong.denied)) {
-        return true;
-    }
-    has_member(view.strong.denied.intersection(other.strong.permitted))
+    has_member(view.strong.permitted.intersection(other.strong.denied))
+        || has_member(view.strong.denied.intersection(other.strong.permitted))
 }

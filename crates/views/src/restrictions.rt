@@ -10,22 +10,12 @@ use sets::NumberSet;
 fn is_below_some<H: Hierarchy>(order: &H, number: usize, set: NumberSet) -> bool
     ensures { Iff (result ≡ true) (Exists (λ s. In s set × H.Hierarchy.pairs order.now number s)) }
 {
-    for above in 0..64usize {
-        if set.contains(above) && order.at_or_below(number, above) {
-            return true;
-        }
-    }
-    false
+    (0..64usize).any(|above| set.contains(above) && order.at_or_below(number, above))
 }
 
 /// Whether each member of a set lies at or below a member of the other.
 pub fn are_below<H: Hierarchy>(order: &H, set: NumberSet, other: NumberSet) -> bool
     ensures { Iff (result ≡ true) ((k : ℕ) → In k set → Exists (λ s. In s other × H.Hierarchy.pairs order.now k s)) }
 {
-    for number in 0..64usize {
-        if set.contains(number) && !is_below_some(order, number, other) {
-            return false;
-        }
-    }
-    true
+    (0..64usize).all(|number| !set.contains(number) || is_below_some(order, number, other))
 }

@@ -32,10 +32,7 @@ pub fn denials(view: &View) -> NumberSet
 pub fn has_member(set: NumberSet) -> bool
     ensures { Iff (result ≡ true) (Exists (λ k. In k set)) }
 {
-    match set.lowest() {
-        Some(_) => true,
-        None => false,
-    }
+    set.lowest().is_some()
 }
 
 /// Whether the sets have no common member.

@@ -10,13 +10,9 @@ use records::View;
 pub fn has_one_right(view: &View) -> bool
     ensures { Iff (result ≡ true) (OneRight view.now) }
 {
-    if !are_disjoint(view.weak.permitted, view.strong.permitted) {
-        return false;
-    }
-    if !are_disjoint(view.weak.denied, view.strong.denied) {
-        return false;
-    }
-    are_disjoint(permissions(view), denials(view))
+    are_disjoint(view.weak.permitted, view.strong.permitted)
+        && are_disjoint(view.weak.denied, view.strong.denied)
+        && are_disjoint(permissions(view), denials(view))
 }
 
 /// Whether the view denies nothing where it is assignable.

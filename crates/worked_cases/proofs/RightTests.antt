@@ -9,7 +9,7 @@ use Rattle.records.specs.declared.View.{View}
 use Rattle.views.specs.Some.{Exists}
 use Rattle.views.specs.Rights.{Right, weak_permission, strong_permission, weak_denial, strong_denial, operations_with, Has, Denies}
 use Rattle.views.specs.ViewRules.{OneRight, AssignableDeniesNothing, VirtualHasNone, RequirementsFollow, RightsFollow, Opposed}
-use Rattle.views.proofs.Rightwise.{apart_one, one_apart, includes_follow, stays_permitted, stays_denied, stays_permission, follow_into, new_into}
+use Rattle.views.proofs.Rightwise.{apart_one, one_apart, all_follow, follow_all, become_permissions, become_strong_permissions, become_rights, become_strong_denials, kept_in, new_in}
 use Rattle.worked_cases.proofs.Telling.{Tells, tells_also, tells_and, tells_or, tells_if}
 use Rattle.worked_cases.proofs.SetTests.{has, tells_has, within, tells_within, bare, tells_bare, apart, tells_apart, tells_meet}
 
@@ -111,8 +111,8 @@ one_right_test v =
 pub tells_one_right : (v : View) → Small v → Tells (one_right_test v) (OneRight v)
 tells_one_right v s =
     tells_also (
-      λ p. apart_one v (record { permissions = p.0.0; denials = p.0.1; modes = λ o h k. p.1 o ((in_permissions v o).1 h) ((in_denials v o).1 k) }),
-      λ one. let a = one_apart v one in ((a.permissions, a.denials), λ o h k. a.modes o ((in_permissions v o).0 h) ((in_denials v o).0 k)),
+      λ p. apart_one v (p.0, λ o h k. p.1 o ((in_permissions v o).1 h) ((in_denials v o).1 k)),
+      λ one. let a = one_apart v one in (a.0, λ o h k. a.1 o ((in_permissions v o).0 h) ((in_denials v o).0 k)),
     )
     (tells_and
     (tells_and
@@ -165,37 +165,16 @@ rights_follow_test v w =
 
 pub tells_rights : (v w : View) → Small v → Small w → Tells (rights_follow_test v w) (RightsFollow v w)
 tells_rights v w s t =
-    tells_also (
-      λ p. includes_follow v w (record {
-        weakly_permitted = λ o h. (in_permissions v o).0 (p.0.0.0.0 o h);
-        strongly_permitted = p.0.0.0.1;
-        weakly_denied = λ o h. (in_rights v o).0 (p.0.0.1 o h);
-        strongly_denied = p.0.1;
-        new = λ o d. (in_rights w o).0 (p.1 o ((in_denials v o).1 d));
-      }),
-      λ f. (
-        (
-          (
-            (
-              follow_into v w weak_permission (record { bits = permissions v }) f (λ o y b h. (in_permissions v o).1 (stays_permission v o y b h)),
-              follow_into v w strong_permission v.strong.permitted f (λ o y b h. stays_permitted v o y b h),
-            ),
-            follow_into v w weak_denial (record { bits = rights v }) f (λ o y b h. right_in v o y h),
-          ),
-          follow_into v w strong_denial v.strong.denied f (λ o y b h. stays_denied v o y b h),
-        ),
-        λ o h. new_into v w (record { bits = rights w }) f (λ o x h. right_in w o x h) o ((in_denials v o).0 h),
-      ),
-    )
+    tells_also (all_follow v w, follow_all v w)
     (tells_and
     (tells_and
     (tells_and
     (tells_and
-    (tells_within _ _ (t.right weak_permission) (small_permissions v s))
-    (tells_within _ _ (t.right strong_permission) (s.right strong_permission)))
-    (tells_within _ _ (t.right weak_denial) (small_rights v s)))
-    (tells_within _ _ (t.right strong_denial) (s.right strong_denial)))
-    (tells_within _ _ (small_denials v s) (small_rights w t)))
+    (tells_also (kept_in v w weak_permission _ (become_permissions v (record { bits = permissions v }) (in_permissions v))) (tells_within _ _ (t.right weak_permission) (small_permissions v s)))
+    (tells_also (kept_in v w strong_permission _ (become_strong_permissions v)) (tells_within _ _ (t.right strong_permission) (s.right strong_permission))))
+    (tells_also (kept_in v w weak_denial _ (become_rights v (record { bits = rights v }) (in_rights v))) (tells_within _ _ (t.right weak_denial) (small_rights v s))))
+    (tells_also (kept_in v w strong_denial _ (become_strong_denials v)) (tells_within _ _ (t.right strong_denial) (s.right strong_denial))))
+    (tells_also (new_in v w (record { bits = denials v }) (record { bits = rights w }) (in_denials v) (in_rights w)) (tells_within _ _ (small_denials v s) (small_rights w t))))
 
 -- ---- of two views
 

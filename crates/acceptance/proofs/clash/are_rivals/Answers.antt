@@ -5,7 +5,7 @@ use Rattle.hierarchy.specs.Order.{Below}
 use Rattle.acceptance.specs.Orders.{view_links}
 use Rattle.views.specs.Some.{Exists}
 use Rattle.views.specs.ViewRules.{Opposed}
-use Rattle.views.proofs.Tested.{fails}
+use Rattle.std.proofs.lemmas.Bool.Decides.{not_from_Decides}
 use Rattle.acceptance.proofs.clash.are_rivals.Goals as goal
 
 pub returns : goal.returns
@@ -15,8 +15,8 @@ returns g c =
     let j = c.args.second in
     let v = c.view_of.ensures in
     let w = c.view_of-2.ensures in
-    let not_below : Below (view_links all) i j → ⊥ = λ p. fails c.at_or_below.result c.at_or_below.ensures c.if-at_or_below.false ((c.requires.views i j).1 p) in
-    let not_above : Below (view_links all) j i → ⊥ = λ p. fails c.at_or_below-2.result c.at_or_below-2.ensures c.if-at_or_below-2.false ((c.requires.views j i).1 p) in (
+    let not_below : Below (view_links all) i j → ⊥ = λ p. not_from_Decides c.at_or_below.result c.at_or_below.ensures c.if-at_or_below.false ((c.requires.views i j).1 p) in
+    let not_above : Below (view_links all) j i → ⊥ = λ p. not_from_Decides c.at_or_below-2.result c.at_or_below-2.ensures c.if-at_or_below-2.false ((c.requires.views j i).1 p) in (
       λ e. (
         not_below,
         not_above,

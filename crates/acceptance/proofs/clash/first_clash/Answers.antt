@@ -1,5 +1,5 @@
 use Rattle.std.proofs.Common.{sym, refl, ◌∙◌, subst, inl, arith, below_more}
-use Rattle.views.proofs.Tested.{fails}
+use Rattle.std.proofs.lemmas.Bool.Decides.{not_from_Decides}
 use Rattle.acceptance.proofs.Clashing.{before_none, before_first, before_more, before_next, no_clash_unshared}
 use Rattle.acceptance.specs.Rules.{Shared}
 use Rattle.acceptance.specs.Checks.{FirstClash}
@@ -22,7 +22,7 @@ loop-kind-preserved g c =
     let j = c.loop-second.second in (
       c.loop-kind.invariant.0,
       c.loop-kind.invariant.1,
-      below_more (λ t. Shared all i j t → ⊥) c.loop-kind.kind c.loop-kind.invariant.2 (fails c.is_shared.result c.is_shared.ensures c.if-is_shared.false),
+      below_more (λ t. Shared all i j t → ⊥) c.loop-kind.kind c.loop-kind.invariant.2 (not_from_Decides c.is_shared.result c.is_shared.ensures c.if-is_shared.false),
     )
 
 pub loop-second-preserved : goal.loop-second-preserved
@@ -34,7 +34,7 @@ loop-second-preserved g c =
       | then-are_rivals+else-loop-kind-test w ↦
           (w.found-is ∙ w.loop-kind.invariant.0, before_more all i j c.loop-second.invariant.1 (no_clash_unshared all i j w.loop-kind.kind (omega arith) w.loop-kind.invariant.2))
       | else-are_rivals w ↦
-          (w.found-is ∙ c.loop-second.invariant.0, before_more all i j c.loop-second.invariant.1 (λ k. fails c.are_rivals.result c.are_rivals.ensures w.if-are_rivals.false k.0))
+          (w.found-is ∙ c.loop-second.invariant.0, before_more all i j c.loop-second.invariant.1 (λ k. not_from_Decides c.are_rivals.result c.are_rivals.ensures w.if-are_rivals.false k.0))
     ]
 
 pub pairs-preserved : goal.pairs-preserved

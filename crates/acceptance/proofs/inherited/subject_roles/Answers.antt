@@ -7,7 +7,7 @@ use Rattle.sets.specs.Members.{In, Iff}
 use Rattle.sets.proofs.Membership.{not_in_none}
 use Rattle.views.specs.Some.{Exists}
 use Rattle.acceptance.specs.Orders.{RoleOf}
-use Rattle.views.proofs.Tested.{fails}
+use Rattle.std.proofs.lemmas.Bool.Decides.{not_from_Decides}
 use Rattle.acceptance.proofs.Inheriting.{Upto, upto_none, upto_take, upto_pass, upto_all}
 use Rattle.acceptance.proofs.inherited.subject_roles.Goals as goal
 use Rattle.acceptance.proofs.inherited.subject_roles.Goals.{then-contains, else-contains}
@@ -36,7 +36,7 @@ loop-group-preserved g c m =
           subst P (sym w.roles-is)
           (upto_take mine (RoleOf all) n c.loop-group.roles w.group_roles.result w.union-roles.result (c.contains.ensures.0 w.if-contains.true) (c.loop-group.invariant m) (w.group_roles.ensures m) w.union-roles.ensures)
       | else-contains w ↦
-          subst P (sym w.roles-is) (upto_pass mine (RoleOf all) n c.loop-group.roles (fails c.contains.result c.contains.ensures w.if-contains.false) (c.loop-group.invariant m))
+          subst P (sym w.roles-is) (upto_pass mine (RoleOf all) n c.loop-group.roles (not_from_Decides c.contains.result c.contains.ensures w.if-contains.false) (c.loop-group.invariant m))
     ]
 
 pub returns : goal.returns
