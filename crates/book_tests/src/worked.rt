@@ -62,7 +62,7 @@ fn fields_of_a_view() -> Result<(), Fail> {
     check_eq(view.controlled, 0)?;
     check_eq(view.bases.lowest(), Some(1))?;
     check(view.required.is_empty() && view.restriction.is_empty())?;
-    check(view.is_assignable() && !view.is_virtual() && !view.is_static())?;
+    check(view.is(Modifier::Assignable) && !view.is(Modifier::Virtual) && !view.is(Modifier::Static))?;
     check_eq(view.weak.permitted.len(), 2)?;
     check(view.weak.permitted.contains(1) && view.weak.permitted.contains(2))?;
     check(

@@ -69,9 +69,9 @@ impl fmt::Display for Modifiers<'_> {
     fn fmt<W: fmt::Write>(&self, f: &mut fmt::Formatter<W>) -> fmt::Result {
         let view = self.0;
         let modifiers = [
-            (view.is_assignable(), "assignable"),
-            (view.is_virtual(), "virtual"),
-            (view.is_static(), "static"),
+            (view.is(Modifier::Assignable), "assignable"),
+            (view.is(Modifier::Virtual), "virtual"),
+            (view.is(Modifier::Static), "static"),
         ];
         for (there, modifier) in modifiers {
             if there {
