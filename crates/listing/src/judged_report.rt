@@ -26,6 +26,7 @@ pub enum JudgedReport {
 pub fn judged_report_on(book: &[u8]) -> JudgedReport
     ensures { JudgedReports result book.now }
 {
+    // Three outcomes come from two results, so no combinator is plainer than this match.
     match Book::judge::<Kept>(book) {
         Ok(accepted) => JudgedReport::Accepted(accepted),
         Err(rejection) => match read(book) {

@@ -14,26 +14,31 @@ fn view_at(views: &[View], place: usize) -> Option<usize>
     views.iter().position(|view| view.place == place)
 }
 
+// The views that break a rule, and how they break it.
+#[derive(Clone, Copy)]
+struct Broken {
+    rule: Rule,
+    view: usize,
+    other: Option<usize>,
+}
+
+impl fmt::Display for Broken {
+    fn fmt<W: fmt::Write>(&self, f: &mut fmt::Formatter<W>) -> fmt::Result {
+        write!(f, "view {}", self.view)?;
+        match (self.rule, self.other) {
+            (Rule::Clashing, Some(second)) => write!(f, " and view {second}")?,
+            (_, Some(base)) => write!(f, " against its base view {base}")?,
+            (_, None) => {}
+        }
+        write!(f, ": {}", self.rule)
+    }
+}
+
 /// A rejection, the views that it is about, and what it means.
 #[derive(Clone, Copy)]
 pub(crate) struct Explained<'a> {
     pub views: &'a [View],
     pub rejection: Rejection,
-}
-
-// The views that break the rule.
-fn write_views<W: fmt::Write>(
-    f: &mut fmt::Formatter<W>,
-    view: usize,
-    rule: Rule,
-    other: Option<usize>,
-) -> fmt::Result {
-    write!(f, "view {view}")?;
-    match (rule, other) {
-        (Rule::Clashing, Some(second)) => write!(f, " and view {second}: "),
-        (_, Some(base)) => write!(f, " against its base view {base}: "),
-        (_, None) => write!(f, ": "),
-    }
 }
 
 impl fmt::Display for Explained<'_> {
@@ -47,12 +52,10 @@ impl fmt::Display for Explained<'_> {
         write!(f, "refused {number} at {place}: ")?;
         match reason {
             Reason::OfForm(refusal) => write!(f, "{refusal}"),
-            Reason::OfRule(rule) => {
-                if let Some(view) = view_at(self.views, place) {
-                    write_views(f, view, rule, other)?;
-                }
-                write!(f, "{rule}")
-            }
+            Reason::OfRule(rule) => match view_at(self.views, place) {
+                Some(view) => write!(f, "{}", Broken { rule, view, other }),
+                None => write!(f, "{rule}"),
+            },
         }
     }
 }
