@@ -1,8 +1,12 @@
 -- Lists of checks: where they pass, and where one of them applies first.
-use Rattle.std.proofs.Common.{◌≡◌, ℕ, zero, suc, ◌<◌, List, [], ◌∷◌, ◌++◌, Some, None, Option, sym, refl, ◌∙◌, subst, inl, inr, ⊎_elim, arith}
+use Rattle.std.proofs.Common.{◌≡◌, ℕ, zero, suc, ◌<◌, List, [], ◌∷◌, ◌++◌, Bool, true, false, Some, None, Option, Ok, Err, Result, MatchResult, Decides, sym, refl, ap, ◌∙◌, subst, inl, inr, ⊎_elim, arith}
 use Rattle.std.proofs.lemmas.Bool.{cases_eq}
+use Rattle.std.proofs.lemmas.Bool.Decides.{not_from_Decides}
+use Rattle.std.proofs.lemmas.Result.{err_from_is_err_and}
+use Rattle.std.specs.Result.{IsErrAnd}
+use Rattle.records.specs.declared.View.{View}
 use Rattle.acceptance.specs.declared.rejection.Rejection.{Rejection}
-use Rattle.acceptance.specs.Checks.{Check, ◌unless◌, First, up_to}
+use Rattle.acceptance.specs.Checks.{Check, ◌unless◌, First, Checked, up_to}
 
 -- no check applies
 abbrev pub Passes : List Check → Type 0
@@ -72,3 +76,51 @@ first_one ((e unless P) ∷ cs) r s (inl p) (inl q) = p.1 ∙ sym q.1
 first_one ((e unless P) ∷ cs) r s (inl p) (inr q) = absurd (p.0 q.0)
 first_one ((e unless P) ∷ cs) r s (inr p) (inl q) = absurd (q.0 p.0)
 first_one ((e unless P) ∷ cs) r s (inr p) (inr q) = first_one cs r s p.1 q.1
+
+-- ---- checks one by one
+
+-- where the first holds, those behind it decide
+pub checked_next : {P : Type 0} (e : Rejection) (cs : List Check) (r : Result (Unit {0}) Rejection) → P → Checked cs r → Checked ((e unless P) ∷ cs) r
+unfolding Checked
+checked_next e cs (Ok u) p f = inr (p, f)
+checked_next e cs (Err d) p f = inr (p, f)
+
+-- where it does not, it rejects
+pub checked_broken : {P : Type 0} (e d : Rejection) (cs : List Check) (r : Result (Unit {0}) Rejection) → IsErrAnd r (λ y. y ≡ d) → (P → ⊥) × (d ≡ e) → Checked ((e unless P) ∷ cs) r
+unfolding Checked
+checked_broken e d cs r i n = let p = err_from_is_err_and r i in rw p.1 (inl (n.0, ap Some (p.2 ∙ n.1)))
+
+-- a test that is the last
+pub checked_last : {P : Type 0} (e : Rejection) (holds : Bool) (r : Result (Unit {0}) Rejection) → Decides holds P → MatchResult r (λ _. holds ≡ true) (λ d. (holds ≡ false) × (d ≡ e)) → Checked ((e unless P) ∷ []) r
+unfolding Checked
+checked_last e holds (Ok u) t m = inr (t.0 m, refl)
+checked_last e holds (Err d) t m = inl (not_from_Decides holds t m.0, ap Some m.1)
+
+-- a test on a base that is named tells of the view of its number
+pub of_named : {I : Type 0} (P : View → Type 0) → I → {base view : View} → base ≡ view → (r : Bool) → Decides r (P base) → Decides r (I → P view)
+of_named P i e r d = (λ h n. subst P e (d.0 h), λ f. d.1 (subst P (sym e) (f i)))
+
+-- ---- lists of checks
+
+pub checked_none : (r : Result (Unit {0}) Rejection) (u : Unit {0}) → r ≡ Ok u → (cs : List Check) → Checked cs r → Passes cs
+unfolding Checked
+checked_none r u e cs c = none_first cs (subst (Checked cs) e c)
+
+pub passes_checked : (cs : List Check) (u : Unit {0}) → Passes cs → Checked cs (Ok u)
+unfolding Checked
+passes_checked cs u p = first_none cs p
+
+-- those in front pass, and those behind decide
+pub checked_behind : (xs ys : List Check) (r : Result (Unit {0}) Rejection) → Passes xs → Checked ys r → Checked (xs ++ ys) r
+unfolding Checked
+checked_behind xs ys (Ok u) p c = first_behind xs ys None p c
+checked_behind xs ys (Err e) p c = first_behind xs ys (Some e) p c
+
+-- a rejection that is handed on
+pub checked_before : (xs ys : List Check) (q r : Result (Unit {0}) Rejection) (e : Rejection) → q ≡ Err e → IsErrAnd r (λ y. y ≡ e) → Checked xs q → Checked (xs ++ ys) r
+unfolding Checked
+checked_before xs ys q r e h i c = let p = err_from_is_err_and r i in rw (p.1, p.2) (first_before xs ys e (subst (Checked xs) h c))
+
+pub checked_each : (n : ℕ) (f : ℕ → List Check) (i : ℕ) (q r : Result (Unit {0}) Rejection) (e : Rejection) → i < n → ((j : ℕ) → j < i → Passes (f j)) → q ≡ Err e → IsErrAnd r (λ y. y ≡ e) → Checked (f i) q → Checked (up_to n f) r
+unfolding Checked
+checked_each n f i q r e l h k a c = let p = err_from_is_err_and r a in rw (p.1, p.2) (first_each n f i e l h (subst (Checked (f i)) k c))

@@ -16,14 +16,15 @@ set_at f d e [] i = sym e
 set_at f d e (x ∷ xs) zero = refl
 set_at f d e (x ∷ xs) (suc i) = set_at f d e xs i
 
-pub few : {A : Type 0} (xs ys : List A) (n : ℕ) → xs ≡ ys → length xs ≤ n → length ys ≤ n
-few xs ys n e l = subst (λ zs. length zs ≤ n) e l
-
 pub falling : {A : Type 0} (f : A → NumberSet) (d : A) → f d ≡ none → (xs : List A) → length xs ≤ 64 → ((i k : ℕ) → In k (f (get_or xs i d)) → k < i) → Falling (map f xs)
 falling f d e xs l h = (
   (let n = length-map xs f in omega arith),
   λ i k p. h i k (subst (In k) (set_at f d e xs i) p),
 )
+
+-- the same of a slice of the list
+pub falling_slice : {A : Type 0} (f : A → NumberSet) (d : A) → f d ≡ none → (slice xs : List A) → slice ≡ xs → length slice ≤ 64 → ((i k : ℕ) → In k (f (get_or xs i d)) → k < i) → Falling (map f slice)
+falling_slice f d e slice xs same l h = falling f d e slice l (subst (λ ys. (i k : ℕ) → In k (f (get_or ys i d)) → k < i) (sym same) h)
 
 -- what is collected is what something at or above carries
 pub collected : {A : Type 0} (carried : A → NumberSet) (d : A) → carried d ≡ none → (xs : List A) (links : List NumberSet) (pairs : ℕ → ℕ → Type 0) → Means pairs links → (a k : ℕ)

@@ -1,5 +1,6 @@
 pub mod Firsts
 pub mod Inheriting
+pub mod Meaning
 pub mod Clashing
 pub mod Deciding
 pub mod Truncated

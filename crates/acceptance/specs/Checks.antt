@@ -1,5 +1,5 @@
 -- The order of checks: the first that applies decides.
-use Rattle.std.specs.Prelude.{◌≡◌, ℕ, zero, suc, ◌<◌, ◌⊎◌, List, [], ◌∷◌, ◌++◌, length, Some, None, Option}
+use Rattle.std.specs.Prelude.{◌≡◌, ℕ, zero, suc, ◌<◌, ◌⊎◌, List, [], ◌∷◌, ◌++◌, length, Some, None, Option, Ok, Err, Result}
 use Rattle.sets.specs.Members.{In}
 use Rattle.records.specs.declared.View.{View}
 use Rattle.book.specs.declared.contents.Records.{Records}
@@ -19,6 +19,11 @@ infix 5 ◌unless◌
 abbrev pub First : List Check → Option Rejection → Type 0
 First [] r = r ≡ None
 First ((e unless P) ∷ cs) r = ((P → ⊥) × (r ≡ Some e)) ⊎ (P × First cs r)
+
+-- the answer of the first check that applies, as a result: it is Ok where none does
+unfoldable pub Checked : List Check → Result (Unit {0}) Rejection → Type 0
+Checked cs (Ok u) = First cs None
+Checked cs (Err e) = First cs (Some e)
 
 -- the checks of each number below n, in rising order
 abbrev pub up_to : ℕ → (ℕ → List Check) → List Check

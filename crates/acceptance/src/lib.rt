@@ -2,6 +2,7 @@
 #![tactic(auto)]
 
 pub mod accepted;
+mod checking;
 mod clash;
 mod extension;
 pub mod inherited;

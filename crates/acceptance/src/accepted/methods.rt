@@ -7,7 +7,7 @@ ghost use Rattle.acceptance.specs.Judgement.{Judged, OneJudgement, AcceptedByRul
 ghost use Rattle.acceptance.specs.Laws.{Kept};
 
 use super::Book;
-use crate::judging::first_breach;
+use crate::judging::check;
 use crate::rejection::Rejection;
 use book::contents::Records;
 use book::read::read;
@@ -24,6 +24,7 @@ impl Book {
     }
 
     /// The judgement of a book, through the hierarchy `H`.
+    #[tactic(auto, using(crate::proofs::Deciding::one_judgement, crate::proofs::Deciding::accepted_by_rules))]
     pub fn judge<H: Hierarchy + Drop>(bytes: &[u8]) -> Result<Book, Rejection>
         ensures judged { MatchResult result (λ b. Judged bytes.now (Ok b.records)) (λ e. Judged bytes.now (Err e)) }
         ensures kept { IfOk result (λ b. Kept b.records) }
@@ -31,9 +32,7 @@ impl Book {
         ensures rules { AcceptedByRules }
     {
         let records = read(bytes)?;
-        if let Some(rejection) = first_breach::<H>(&records) {
-            return Err(rejection);
-        }
+        check::<H>(&records)?;
         Ok(Book { records })
     }
 
@@ -41,13 +40,8 @@ impl Book {
     pub fn load<H: Hierarchy + Drop>(&mut self, bytes: &[u8]) -> Result<(), Rejection>
         ensures { MatchResult result (λ _. Judged bytes.now (Ok self.new.records)) (λ e. Judged bytes.now (Err e) × (self.new ≡ self.old)) }
     {
-        match Book::judge::<H>(bytes) {
-            Ok(book) => {
-                *self = book;
-                Ok(())
-            }
-            Err(rejection) => Err(rejection),
-        }
+        *self = Book::judge::<H>(bytes)?;
+        Ok(())
     }
 
     /// The records: whoever has a book has its rules.

@@ -1,7 +1,7 @@
 use Rattle.std.proofs.Common.{ℕ, ◌<◌}
 use Rattle.acceptance.specs.Checks.{of_base}
 use Rattle.acceptance.proofs.Firsts.{Passes}
-use Rattle.acceptance.proofs.extension.bases_breach.Given as goal
+use Rattle.acceptance.proofs.orders.Orders.check_bases.Given as goal
 
 abbrev pub invariant-loop-number : goal.invariant-loop-number
-invariant-loop-number g l = (i : ℕ) → i < l.number → Passes (of_base l.records l.view i)
+invariant-loop-number g l = (i : ℕ) → i < l.number → Passes (of_base l.self.records.now l.view i)
