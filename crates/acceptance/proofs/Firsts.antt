@@ -13,16 +13,13 @@ abbrev pub Passes : List Check → Type 0
 Passes [] = Unit {0}
 Passes ((e unless P) ∷ cs) = P × Passes cs
 
-some_not_none : (e : Rejection) → ◌≡◌ {A = Option Rejection} None (Some e) → ⊥
-some_not_none e q = let z : ◌≡◌ {A = ℕ} 0 1 = cc in omega arith
-
 pub first_none : (cs : List Check) → Passes cs → First cs None
 first_none [] p = refl
 first_none ((e unless P) ∷ cs) p = inr (p.0, first_none cs p.1)
 
 pub none_first : (cs : List Check) → First cs None → Passes cs
 none_first [] f = tt
-none_first ((e unless P) ∷ cs) (inl f) = absurd (some_not_none e f.1)
+none_first ((e unless P) ∷ cs) (inl f) = let q = f.1 in absurd cc
 none_first ((e unless P) ∷ cs) (inr f) = (f.0, none_first cs f.1)
 
 pub first_behind : (xs ys : List Check) (r : Option Rejection) → Passes xs → First ys r → First (xs ++ ys) r
@@ -30,7 +27,7 @@ first_behind [] ys r p f = f
 first_behind ((e unless P) ∷ xs) ys r p f = inr (p.0, first_behind xs ys r p.1 f)
 
 pub first_before : (xs ys : List Check) (e : Rejection) → First xs (Some e) → First (xs ++ ys) (Some e)
-first_before [] ys e f = absurd (some_not_none e (sym f))
+first_before [] ys e f = let q : ◌≡◌ {A = Option Rejection} (Some e) None = f in absurd cc
 first_before ((d unless P) ∷ xs) ys e (inl f) = inl f
 first_before ((d unless P) ∷ xs) ys e (inr f) = inr (f.0, first_before xs ys e f.1)
 
