@@ -31,13 +31,13 @@ module _ (book : List ℕ) (at : ℕ) (within : at ≤ length book) where
           let b = length-drop at book in
           omega arith
 
-      pub part_length : length (take (size - 0) (left book at)) ≡ size
+      pub part_length : length (take size (left book at)) ≡ size
       part_length =
           let i = inside in
           let l = ap length (take_rest book at) ∙ length-drop at book in
-          length-take-le (size - 0) (left book at) (omega arith) ∙ omega arith
+          length-take-le size (left book at) (omega arith)
 
-      pub handed : Handed book at p n q at (take (size - 0) (left book at))
+      pub handed : Handed book at p n q at (take size (left book at))
       handed =
           let w = (cut_whole p (numbered p n) (drop at book) q size (cut_left (whole q size) e)).extent in
           let a = w.size_is in
@@ -46,7 +46,7 @@ module _ (book : List ℕ) (at : ℕ) (within : at ≤ length book) where
           record {
             record_is = cut_left (whole q size) e ∙ ap (whole q) (sym l);
             place_is = refl;
-            bytes_are = ap (take (size - 0)) (take_rest book at) ∙ ap (λ n. take n (drop at book)) (omega arith);
+            bytes_are = ap (take size) (take_rest book at) ∙ ap (λ n. take n (drop at book)) (omega arith);
             some = omega arith;
             inside = omega arith;
           }

@@ -10,3 +10,4 @@ pub mod Tracking
 pub mod Steps
 pub mod Parts
 pub mod Declaring
+pub mod Mapped

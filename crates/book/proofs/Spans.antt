@@ -1,8 +1,9 @@
 -- How many bytes the fields take that a map names, counted field by field.
-use Rattle.std.proofs.Common.{◌≡◌, ℕ, ◌+◌, ◌/◌, ◌^◌, ◌<◌, ◌≤◌, Bool, true, false, cond, not, ◌&&◌, leb, List, [], ◌∷◌, map, length, get_or, drop, sym, refl, ap, ◌∙◌, ⊎_elim, arith}
+use Rattle.std.proofs.Common.{◌≡◌, ℕ, ◌+◌, ◌/◌, ◌^◌, ◌<◌, ◌≤◌, Bool, true, false, cond, not, ◌&&◌, leb, List, [], ◌∷◌, map, length, get_or, drop, sym, refl, ap, ◌∙◌, ⊎_elim, one-add, arith}
 use Rattle.std.proofs.lemmas.List.{at_drop_more, at_drop_all, length-map}
 use Rattle.std.proofs.lemmas.Bool.{le-leb, lt-leb, or_left, or_right, or_from, cases_lt}
-use Rattle.sets.proofs.Membership.{in_more, shifted_out}
+use Rattle.std.proofs.lemmas.Nat.{shr-shr}
+use Rattle.sets.proofs.Membership.{shifted_out}
 use Rattle.book.specs.declared.phase.Phase.{Phase}
 use Rattle.book.specs.declared.phase.Phase.TheVariants.{Types, Roles, Groups, Views, Subjects}
 use Rattle.book.specs.Layout.{Field, width, layout, needs_first}
@@ -24,7 +25,7 @@ span_widths (f ∷ L) m = ap (λ n. cond (marked m) (width f) 0 + n) (span_width
 
 past_is : (ws : List ℕ) (m : ℕ) → past_of ws m ≡ m / 2 ^ length ws
 past_is [] m = omega arith
-past_is (w ∷ ws) m = past_is ws (m / 2) ∙ in_more (length ws) m
+past_is (w ∷ ws) m = past_is ws (m / 2) ∙ shr-shr m 1 (length ws) ∙ ap (λ n. m / 2 ^ n) (one-add (length ws))
 
 at_most : (t : Bool) (w : ℕ) → cond t w 0 ≤ w
 at_most true w = omega arith

@@ -92,15 +92,15 @@ names_back c k b (inl e) = (
 )
   where
     none : (i : ℕ) → In i (set_of []) → ⊥
-    none i h = let l = (below 0 0 (omega arith)).0 (omega arith) i h in omega arith
+    none i h = let l = (below 0 0).0 (omega arith) i h in omega arith
 names_back c k b (inr p) =
     let t = both_none (is_empty (set_of b)) (is_below (count k c) (set_of b)) p.1.1 in
     let w = word_of_bytes b p.0 p.1.0 in
-    (set_back b (inr (p.0, p.1.0, t.0)), (w, (below (count k c) (number_from_digits 256 b) w).0 (ltb-true _ _ t.1)))
+    (set_back b (inr (p.0, p.1.0, t.0)), (w, (below (count k c) (number_from_digits 256 b)).0 (ltb-true _ _ t.1)))
 
 pub names_stood : (c : Records) (k : Phase) (s : NumberSet) → Declared c k s → Stood c (names k) (set_field s)
 names_stood c k s d =
-    let h = lt-ltb s.bits (2 ^ count k c) ((below (count k c) s.bits d.0).1 d.1) in
+    let h = lt-ltb s.bits (2 ^ count k c) ((below (count k c) s.bits).1 d.1) in
     stood_set c (names k) s refl d.0
     (λ t.
     ap (λ s. cond (is_empty s) (Some Empty) (cond (is_below (count k c) s) None (Some Undeclared))) (set_of_bytes s d.0)

@@ -12,7 +12,7 @@ use Rattle.records.specs.declared.RoleRecord.{RoleRecord}
 use Rattle.records.specs.declared.GroupRecord.{GroupRecord}
 use Rattle.records.specs.declared.Rights.{Rights}
 use Rattle.records.specs.declared.View.{View}
-use Rattle.book.specs.declared.contents.Terms.{Terms}
+use Rattle.book.specs.declared.making.Terms.{Terms}
 use Rattle.records.specs.declared.SubjectRecord.{SubjectRecord}
 use Rattle.book.specs.Layout.{kind_of, kind_named, limit, Field, names, operations, controlled, modifiers, denials, layout, width, needs_first}
 use Rattle.book.specs.declared.contents.Records.{Records}

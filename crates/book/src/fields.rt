@@ -8,6 +8,7 @@ use crate::refusal::Refusal;
 use sets::NumberSet;
 
 /// What is left of a record's fields: bit 0 of the map is that of the next field.
+// No ghost field says that enough bytes are left, since how many are needed hangs on which field is taken next.
 #[derive(Clone, Copy)]
 pub(crate) struct Fields<'a> {
     pub(crate) map: u8,
@@ -33,13 +34,11 @@ impl<'a> Fields<'a> {
         ensures map { self.new.map ≡ self.old.map }
         ensures rest { self.new.rest.now ≡ drop 1 self.old.rest.now }
     {
-        match self.rest {
-            [byte, rest @ ..] => {
-                self.rest = rest;
-                *byte
-            }
-            _ => unreachable(),
-        }
+        let Some((byte, rest)) = self.rest.split_first() else {
+            unreachable!()
+        };
+        self.rest = rest;
+        *byte
     }
 
     // The next eight bytes, as a set.
@@ -49,13 +48,11 @@ impl<'a> Fields<'a> {
         ensures map { self.new.map ≡ self.old.map }
         ensures rest { self.new.rest.now ≡ drop 8 self.old.rest.now }
     {
-        match self.rest {
-            [a, b, c, d, e, f, g, h, rest @ ..] => {
-                self.rest = rest;
-                NumberSet::from_bytes([*a, *b, *c, *d, *e, *f, *g, *h])
-            }
-            _ => unreachable(),
-        }
+        let Some((bytes, rest)) = self.rest.split_first_chunk() else {
+            unreachable!()
+        };
+        self.rest = rest;
+        NumberSet::from(*bytes)
     }
 
     /// The next set, none where it is absent; refused where it is present and empty.

@@ -4,6 +4,7 @@
 pub mod contents;
 mod fields;
 mod layout;
+mod making;
 pub mod part;
 pub mod phase;
 pub mod position;

@@ -2,7 +2,7 @@
 use crate::phase::Phase;
 
 /// A record's kind, the offset of its kind byte, and its bytes.
-#[derive(Clone, Copy)]
+#[derive(Clone, Copy, PartialEq, Eq, Debug)]
 pub struct Part<'a> {
     pub phase: Phase,
     pub place: usize,

@@ -1,5 +1,6 @@
 //! Where a reader stands in a book, and which record stands there.
-ghost use Rattle.std.specs.Prelude.{◌≡◌, ◌≤◌, true, false, length, MatchOption, MatchResult};
+ghost use Rattle.std.specs.Prelude.{◌≡◌, ◌≤◌, Ok, Err, length, MatchOption, MatchResult};
+ghost use Rattle.book.specs.declared.refusal.Refusal.TheVariants.{Order};
 ghost use Rattle.book.specs.Form.{opened, cut, whole, broken};
 ghost use Rattle.book.specs.FormLaws.{numbered};
 
@@ -8,7 +9,7 @@ use crate::phase::Phase;
 use crate::refusal::Refusal;
 
 /// A place in the book, the kind of the record before it, and how many of that kind there were.
-#[derive(Clone, Copy)]
+#[derive(Clone, Copy, PartialEq, Eq, Debug)]
 pub struct Position {
     pub at: usize,
     pub phase: Phase,
@@ -24,9 +25,10 @@ impl Position {
         self.number = 0;
     }
 
-    // Goes on to a record of that kind byte; false where the byte is no kind, or a lower one.
-    fn open(&mut self, kind: u8) -> bool
-        ensures { MatchOption (opened self.old.phase kind) ((result ≡ false) × (self.new ≡ self.old)) (λ q. (result ≡ true) × (self.new.phase ≡ q) × (self.new.number ≡ numbered self.old.phase self.old.number q)) }
+    // Goes on to a record of that kind byte; refused where the byte is no kind, or a lower one.
+    // A project rule asks that the phase be matched with the kind byte as it stands in the book, and changed in place.
+    fn open(&mut self, kind: u8) -> Result<(), Refusal>
+        ensures { MatchOption (opened self.old.phase kind) ((result ≡ Err Order) × (self.new ≡ self.old)) (λ q. (result ≡ Ok tt) × (self.new.phase ≡ q) × (self.new.number ≡ numbered self.old.phase self.old.number q)) }
     {
         match (self.phase, kind) {
             (Phase::Types, 1) => {}
@@ -40,9 +42,9 @@ impl Position {
                 Phase::Subjects,
             ),
             (Phase::Subjects, 5) => {}
-            _ => return false,
+            _ => return Err(Refusal::Order),
         }
-        true
+        Ok(())
     }
 
     /// The record at the front of the bytes: its kind, how many of the kind came before it, and its length.
@@ -51,18 +53,14 @@ impl Position {
         ensures { MatchResult result (λ x. (cut self.phase (numbered self.phase self.number) bytes.now ≡ whole x.0 x.2) × (x.1 ≡ numbered self.phase self.number x.0)) (λ e. cut self.phase (numbered self.phase self.number) bytes.now ≡ broken e) }
     {
         let mut next = self;
-        if !next.open(bytes[0]) {
-            return Err(Refusal::Order);
-        }
+        next.open(bytes[0])?;
         if next.number >= most(next.phase) {
             return Err(Refusal::TooMany);
         }
         let [_kind, map, rest @ ..] = bytes else {
             return Err(Refusal::Ends);
         };
-        let Some(size) = measure(next.phase, *map) else {
-            return Err(Refusal::Map);
-        };
+        let size = measure(next.phase, *map).ok_or(Refusal::Map)?;
         if rest.len() < size {
             return Err(Refusal::Ends);
         }

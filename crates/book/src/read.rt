@@ -30,19 +30,15 @@ pub fn read(book: &[u8]) -> Result<Records, Fault>
     ensures encoded { PassesAsEncoded }
     ensures parts { PartsAreTheBook }
 {
-    if let Err(refusal) = check_opening(book) {
-        return Err(Fault { refusal, place: 0 });
-    }
+    check_opening(book).map_err(|refusal| Fault { refusal, place: 0 })?;
     let mut reader = Reader::new(book);
     let mut records = Records::empty();
     while let Some(part) = reader.next()? {
-        match records.made_of(part) {
-            Ok(record) => records.file(record),
-            Err(refusal) => return Err(Fault {
-                refusal,
-                place: part.place,
-            }),
-        }
+        let record = records.made_of(part).map_err(|refusal| Fault {
+            refusal,
+            place: part.place,
+        })?;
+        records.file(record);
     }
     Ok(records)
 }

@@ -29,6 +29,7 @@ impl<'a> Reader<'a> {
         Reader { book, position }
     }
 
+    // No `Iterator` is plainer: a refused reader stays as it was, so it would yield its refusal without end.
     /// The next record of the book, none at its end. A refused reader stays as it was.
     pub fn next(&mut self) -> Result<Option<Part<'a>>, Fault>
         ensures book { self.new.book.now ≡ self.old.book.now }
@@ -39,20 +40,19 @@ impl<'a> Reader<'a> {
         if bytes.is_empty() {
             return Ok(None);
         }
-        match self.position.cut(bytes) {
-            Err(refusal) => Err(Fault { refusal, place }),
-            Ok((phase, number, size)) => {
-                self.position = Position {
-                    at: place + size,
-                    phase,
-                    number: number + 1,
-                };
-                Ok(Some(Part {
-                    phase,
-                    place,
-                    bytes: &bytes[0..size],
-                }))
-            }
-        }
+        let (phase, number, size) = self
+            .position
+            .cut(bytes)
+            .map_err(|refusal| Fault { refusal, place })?;
+        self.position = Position {
+            at: place + size,
+            phase,
+            number: number + 1,
+        };
+        Ok(Some(Part {
+            phase,
+            place,
+            bytes: &bytes[..size],
+        }))
     }
 }

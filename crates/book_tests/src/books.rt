@@ -1,23 +1,20 @@
 //! What the tests share: how a book is refused, and books that are made by rule.
-use crate::checks::{check, check_eq};
+use crate::checks::check_eq;
 use book::read::read;
 use std::alloc::{AllocError, Global};
 use std::test::Fail;
 
 /// Checks that the form of a book is refused, with this number and place.
 pub fn check_refused(book: &[u8], number: u8, place: usize) -> Result<(), Fail> {
-    match read(book) {
-        Ok(_) => Err(Fail::new("the book passed")),
-        Err(fault) => {
-            check_eq(u8::from(fault.refusal), number)?;
-            check_eq(fault.place, place)
-        }
-    }
+    let fault = read(book).err().ok_or("the book passed")?;
+    check_eq(u8::from(fault.refusal), number)?;
+    check_eq(fault.place, place)
 }
 
 /// Checks that the form of a book passes.
 pub fn check_passes(book: &[u8]) -> Result<(), Fail> {
-    check(read(book).is_ok())
+    read(book)?;
+    Ok(())
 }
 
 /// The byte 01, and then so many records with no field, of one kind.

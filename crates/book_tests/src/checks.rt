@@ -1,4 +1,5 @@
 //! What a test asks for; a failure is its error.
+// A project rule keeps `Abort` out of tests too, so these stand for `assert!` and `assert_eq!`.
 use std::fmt::Debug;
 use std::test::Fail;
 

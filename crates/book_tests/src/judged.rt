@@ -1,5 +1,5 @@
 //! How books are judged, through both orders.
-use crate::checks::{check, check_eq};
+use crate::checks::check_eq;
 use acceptance::accepted::Book;
 use hierarchy::kept::Kept;
 use hierarchy::order::Hierarchy;
@@ -13,14 +13,10 @@ fn check_through<H: Hierarchy + Drop>(
     place: usize,
     other: Option<usize>,
 ) -> Result<(), Fail> {
-    match Book::judge::<H>(book) {
-        Ok(_) => Err(Fail::new("the book is accepted")),
-        Err(rejection) => {
-            check_eq(u8::from(rejection.reason), number)?;
-            check_eq(rejection.place, place)?;
-            check_eq(rejection.other, other)
-        }
-    }
+    let rejection = Book::judge::<H>(book).err().ok_or("the book is accepted")?;
+    check_eq(u8::from(rejection.reason), number)?;
+    check_eq(rejection.place, place)?;
+    check_eq(rejection.other, other)
 }
 
 /// Checks that a book is rejected through both orders, with this number, place and other view.
@@ -36,6 +32,7 @@ pub fn check_rejected(
 
 /// Checks that a book is accepted through both orders.
 pub fn check_accepted(book: &[u8]) -> Result<(), Fail> {
-    check(Book::judge::<Kept>(book).is_ok())?;
-    check(Book::judge::<Walked>(book).is_ok())
+    Book::judge::<Kept>(book)?;
+    Book::judge::<Walked>(book)?;
+    Ok(())
 }

@@ -17,16 +17,16 @@ fn accepted_books() -> Result<(), Fail> {
 fn an_accepted_book_replaces() -> Result<(), Fail> {
     let mut book = Book::empty();
     check_eq(book.records().views.len(), 0)?;
-    check(book.load::<Kept>(&BOOK).is_ok())?;
+    book.load::<Kept>(&BOOK)?;
     check_eq(book.records().views.len(), 3)?;
-    check(book.load::<Kept>(&[1]).is_ok())?;
+    book.load::<Kept>(&[1])?;
     check_eq(book.records().views.len(), 0)
 }
 
 #[test]
 fn a_rejected_book_leaves(rt: HostRuntime) -> Result<(), Fail> {
     let mut book = Book::empty();
-    check(book.load::<Kept>(&BOOK).is_ok())?;
+    book.load::<Kept>(&BOOK)?;
     check(book.load::<Kept>(&[2]).is_err())?;
     check_eq(book.records().views.len(), 3)?;
     let denies = ViewFields {

@@ -1,6 +1,6 @@
 //! What the author of a book is told.
 use crate::books::plain_records;
-use crate::checks::check;
+use crate::checks::check_eq;
 use listing::report::report_on;
 use std::alloc::Global;
 use std::test::Fail;
@@ -9,7 +9,7 @@ use std::test::Fail;
 fn check_text(heap: Global, book: &[u8], text: &str) -> Result<(), Fail> {
     let report = report_on(book);
     let written = format!(in heap; "{report}")?;
-    check(written.as_str() == text)
+    check_eq(written.as_str(), text)
 }
 
 #[test]

@@ -1,6 +1,5 @@
 //! The worked book of two types, two roles, a group, three views and two subjects.
 use crate::checks::{check, check_eq};
-use book::contents::Records;
 use book::read::read;
 use std::test::Fail;
 
@@ -19,16 +18,9 @@ pub const BOOK: [u8; 121] = [
     5, 1, 0, 0, 0, 0, 0, 0, 0, 1, // subject 1
 ];
 
-fn records() -> Result<Records, Fail> {
-    match read(&BOOK) {
-        Ok(records) => Ok(records),
-        Err(_) => Err(Fail::new("the book is refused")),
-    }
-}
-
 #[test]
 fn counts() -> Result<(), Fail> {
-    let records = records()?;
+    let records = read(&BOOK)?;
     check_eq(records.types.len(), 2)?;
     check_eq(records.roles.len(), 2)?;
     check_eq(records.groups.len(), 1)?;
@@ -38,7 +30,7 @@ fn counts() -> Result<(), Fail> {
 
 #[test]
 fn places_of_types_roles_and_groups() -> Result<(), Fail> {
-    let records = records()?;
+    let records = read(&BOOK)?;
     check_eq(records.types.get(0).ok_or("type 0")?.place, 1)?;
     check_eq(records.types.get(1).ok_or("type 1")?.place, 11)?;
     check_eq(records.roles.get(0).ok_or("role 0")?.place, 29)?;
@@ -48,7 +40,7 @@ fn places_of_types_roles_and_groups() -> Result<(), Fail> {
 
 #[test]
 fn places_of_views_and_subjects() -> Result<(), Fail> {
-    let records = records()?;
+    let records = read(&BOOK)?;
     check_eq(records.views.get(0).ok_or("view 0")?.place, 51)?;
     check_eq(records.views.get(1).ok_or("view 1")?.place, 62)?;
     check_eq(records.views.get(2).ok_or("view 2")?.place, 81)?;
@@ -58,11 +50,11 @@ fn places_of_views_and_subjects() -> Result<(), Fail> {
 
 #[test]
 fn fields_of_a_view() -> Result<(), Fail> {
-    let view = records()?.views.get(2).ok_or("view 2")?;
+    let view = read(&BOOK)?.views.get(2).ok_or("view 2")?;
     check_eq(view.controlled, 0)?;
     check_eq(view.bases.lowest(), Some(1))?;
     check(view.required.is_empty() && view.restriction.is_empty())?;
-    check(view.is_assignable() && !view.is_virtual() && !view.is_static())?;
+    check(view.is(Modifier::Assignable) && !view.is(Modifier::Virtual) && !view.is(Modifier::Static))?;
     check_eq(view.weak.permitted.len(), 2)?;
     check(view.weak.permitted.contains(1) && view.weak.permitted.contains(2))?;
     check(
@@ -74,7 +66,7 @@ fn fields_of_a_view() -> Result<(), Fail> {
 
 #[test]
 fn no_record_past_the_last() -> Result<(), Fail> {
-    let records = records()?;
+    let records = read(&BOOK)?;
     check(records.types.get(2).is_none())?;
     check(records.views.get(3).is_none())?;
     check(records.subjects.get(2).is_none())

@@ -7,7 +7,6 @@ use std::io;
 
 fn main(rt: HostRuntime) -> io::Result<()> {
     let mut buffer = [0u8; LONGEST];
-    let len = book_bytes(&rt, &mut buffer);
-    let report = report_on(&buffer[0..len]);
-    print!(rt; "{report}")
+    let book = book_bytes(&rt, &mut buffer);
+    print!(rt; "{}", report_on(book))
 }

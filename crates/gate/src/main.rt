@@ -9,11 +9,8 @@ use std::io;
 
 fn main(rt: HostRuntime) -> io::Result<()> {
     let mut buffer = [0u8; LONGEST];
-    let len = book_bytes(&rt, &mut buffer);
+    let bytes = book_bytes(&rt, &mut buffer);
     let mut book = Book::empty();
-    let judgement = match book.load::<Kept>(&buffer[0..len]) {
-        Ok(()) => Judgement::Accepted,
-        Err(rejection) => Judgement::Rejected(rejection),
-    };
+    let judgement = Judgement::from(book.load::<Kept>(bytes));
     println!(rt; "{judgement}")
 }

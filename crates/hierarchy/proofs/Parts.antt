@@ -1,8 +1,7 @@
 -- The row of a number, joined from the rows of those directly above it.
-use Rattle.std.proofs.Common.{◌≡◌, ℕ, ◌+◌, ◌<◌, ◌≤◌, ◌⊎◌, List, length, sym, refl, subst, inl, inr, ⊎_elim, arith}
-use mathlib.Core.Logic.{∥∥₁_elim}
+use Rattle.std.proofs.Common.{◌≡◌, ℕ, ◌<◌, ◌≤◌, ◌⊎◌, List, length, sym, refl, subst, inl, inr, ⊎_elim, arith}
+use mathlib.Core.Logic.{∥∥₁_elim, ∥∥₁_prop}
 use native.Mathlib.Nat.{ℕ_set}
-use Rattle.std.proofs.lemmas.Bool.{cases_eq}
 use Rattle.sets.specs.declared.NumberSet.{NumberSet}
 use Rattle.sets.specs.Members.{In, Iff}
 use Rattle.hierarchy.specs.Order.{links_of, Falling, Steps, here, up, Below, Reflexive, Transitive}
@@ -10,39 +9,21 @@ use Rattle.hierarchy.specs.Rows.{Told, InRows}
 use Rattle.hierarchy.specs.Paths.{below_refl, below_trans, below_le, below_within}
 use Rattle.hierarchy.proofs.Paths.{below_up}
 
--- row has i, and what is at or above those links of i that are below b
-pub record Part (links : List NumberSet) (i b : ℕ) (row : NumberSet) : Type 0 where
-  pub right : (k : ℕ) → In k row → Below links i k
-  pub own : In i row
-  pub all : (k c : ℕ) → c < b → In c (links_of links i) → Below links c k → In k row
-
-pub part_start : (links : List NumberSet) (i : ℕ) (row : NumberSet) → i < length links → ((k : ℕ) → Iff (In k row) (k ≡ i)) → Part links i 0 row
-part_start links i row l h = record {
-  right = λ k p. subst (Below links i) (sym ((h k).0 p)) (below_refl links i l);
-  own = (h i).1 refl;
-  all = λ k c p q r. absurd (omega arith);
-}
-
-pub part_take : (links : List NumberSet) (i b : ℕ) (row new from : NumberSet) → Part links i b row → In b (links_of links i) → ((k : ℕ) → Iff (In k from) (Below links b k)) → ((k : ℕ) → Iff (In k new) (In k row ⊎ In k from)) → Part links i (b + 1) new
-part_take links i b row new from p m t h = record {
-  right = λ k q. ⊎_elim (p.right k) (λ r. below_up links i b k m ((t k).0 r)) ((h k).0 q);
-  own = (h i).1 (inl p.own);
-  all = λ k c l q r. ⊎_elim (λ e. (h k).1 (inr ((t k).1 (subst (λ x. Below links x k) e r)))) (λ e. (h k).1 (inl (p.all k c (omega (arith, e)) q r))) (cases_eq c b);
-}
-
-pub part_pass : (links : List NumberSet) (i b : ℕ) (row : NumberSet) → Part links i b row → (In b (links_of links i) → ⊥) → Part links i (b + 1) row
-part_pass links i b row p m = record {
-  right = p.right;
-  own = p.own;
-  all = λ k c l q r. ⊎_elim (λ e. absurd (m (subst (λ x. In x (links_of links i)) e q))) (λ e. p.all k c (omega (arith, e)) q r) (cases_eq c b);
-}
-
-whole : {links : List NumberSet} {i : ℕ} {row : NumberSet} {k : ℕ} → Falling links → Part links i i row → Steps links i k → In k row
-whole f p (here l) = p.own
-whole f p (up {a = i} {b = b} {c = k} e r) = p.all k b (f.1 i b e) e ∣ r ∣₁
-
-pub part_done : (links : List NumberSet) (i : ℕ) (row : NumberSet) → Falling links → Part links i i row → (k : ℕ) → Iff (In k row) (Below links i k)
-part_done links i row f p k = (p.right k, λ q. ∥∥₁_elim q (ℕ_set _ _) (whole f p))
+-- the number itself, and what is at or above those directly above it
+pub row_done : (links : List NumberSet) (i : ℕ) (start above row : NumberSet) → i < length links → ((k : ℕ) → Iff (In k start) (k ≡ i)) → above ≡ links_of links i
+    → ((k : ℕ) → Iff (In k row) (In k start ⊎ ∥ ((c : ℕ) × In c above × Below links c k) ∥₁)) → (k : ℕ) → Iff (In k row) (Below links i k)
+row_done links i start above row l only e h k = (
+  λ p.
+      ⊎_elim
+      (λ q. subst (Below links i) (sym ((only k).0 q)) (below_refl links i l))
+      (λ q. ∥∥₁_elim q ∥∥₁_prop (λ r. below_up links i r.0 k (subst (In r.0) e r.1) r.2))
+      ((h k).0 p),
+  λ p. ∥∥₁_elim p (ℕ_set _ _) (λ s. (h k).1 (first_step s)),
+)
+  where
+    first_step : {k : ℕ} → Steps links i k → In k start ⊎ ∥ ((c : ℕ) × In c above × Below links c k) ∥₁
+    first_step (here m) = inl ((only i).1 refl)
+    first_step (up {b = c} f r) = inr ∣ (c, subst (In c) (sym e) f, ∣ r ∣₁) ∣₁
 
 -- ---- the order of rows that tell of falling links
 

@@ -43,6 +43,6 @@ impl Hierarchy for Kept {
     }
 
     fn at_or_below(&self, a: usize, b: usize) -> bool {
-        a < self.len && NumberSet::from_bits(self.rows.of[a]).contains(b)
+        a < self.len && NumberSet::from(self.rows.of[a]).contains(b)
     }
 }

@@ -9,6 +9,7 @@ use sets::NumberSet;
 pub mod methods;
 
 /// A record that lies directly below others of its kind.
+// One trait for this and for `Carrier` is no plainer: a group is both, so it would need a parameter that says which.
 pub trait Linked {
     /// The numbers of the records directly above.
     ghost above: { Self → NumberSet };
@@ -19,6 +20,7 @@ pub trait Linked {
 }
 
 /// The links of up to 64 numbers, each to lower numbers only.
+// A project rule keeps them in fixed memory, to be copied with the order that walks them, which no `Table` can be.
 #[derive(Clone, Copy)]
 pub struct Links {
     rows: [NumberSet; 64],

@@ -36,8 +36,6 @@ pub trait Hierarchy: Sized {
 pub fn order_of<H: Hierarchy, R: Linked>(records: &[R]) -> Option<H>
     ensures { MatchOption result (Falling (map R.Linked.above records.now) → ⊥) (λ h. Means (H.Hierarchy.pairs h) (map R.Linked.above records.now)) }
 {
-    match Links::of(records) {
-        Some(links) => Some(H::from_links(&links)),
-        None => None,
-    }
+    let links = Links::of(records)?;
+    Some(H::from_links(&links))
 }

@@ -9,6 +9,7 @@ use crate::links::Links;
 use sets::NumberSet;
 
 /// For each number, the word whose bits are the numbers at or above it.
+// A project rule asks for words in a plain struct that is copied by value.
 #[derive(Clone, Copy)]
 pub struct Rows {
     pub(crate) of: [u64; 64],
@@ -19,13 +20,10 @@ fn row(links: &Links, of: &[u64; 64], number: usize) -> NumberSet
     requires { (number < length (linked links.now)) × Told (linked links.now) of.now number }
     ensures { (k : ℕ) → Iff (In k result) (Below (linked links.now) number k) }
 {
-    let above = links.above(number);
     let mut row = NumberSet::empty();
     row.insert(number);
-    for lower in 0..number {
-        if above.contains(lower) {
-            row = row.union(NumberSet::from_bits(of[lower]));
-        }
+    for lower in links.above(number).iter() {
+        row = row.union(NumberSet::from(of[lower]));
     }
     row
 }
@@ -36,8 +34,9 @@ pub(crate) fn build(links: &Links) -> Rows
     ensures told { Told (linked links.now) result.of (length (linked links.now)) }
 {
     let mut of = [0u64; 64];
+    // An iterator over the rows would be no plainer, since each row is made from those before it.
     for number in 0..links.len() {
-        of[number] = row(links, &of, number).bits();
+        of[number] = u64::from(row(links, &of, number));
     }
     Rows { of }
 }

@@ -25,6 +25,7 @@ fn above(links: &Links, number: usize) -> NumberSet
         return seen;
     }
     seen.insert(number);
+    // An iterator over the members is no plainer, since the set grows on the way.
     for i in (0..number + 1).rev() {
         if seen.contains(i) {
             seen = seen.union(links.above(i));

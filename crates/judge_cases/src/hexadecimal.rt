@@ -3,7 +3,7 @@ ghost use Rattle.std.specs.Prelude.{◌<◌, IfSome};
 
 use std::alloc::{AllocError, Global};
 
-// The value of a digit.
+// The value of a digit. `to_digit` also takes uppercase ones, so it would be no plainer.
 fn digit(character: u8) -> Option<u8>
     ensures { IfSome result (λ x. x < 16) }
 {
@@ -14,21 +14,19 @@ fn digit(character: u8) -> Option<u8>
     }
 }
 
-// The byte that two digits stand for.
-fn byte(high: u8, low: u8) -> Option<u8> {
-    let high = digit(high)?;
-    let low = digit(low)?;
-    Some(high * 16 + low)
+// The byte that a pair of digits stands for.
+fn byte(pair: &[u8]) -> Option<u8> {
+    let [high, low] = pair else {
+        return None;
+    };
+    Some(digit(*high)? * 16 + digit(*low)?)
 }
 
 /// The bytes that a line stands for, if it is made of pairs of digits.
 pub(crate) fn bytes_of(heap: Global, line: &[u8]) -> Result<Option<Vec<u8>>, AllocError> {
     let mut bytes = Vec::new(heap);
     for pair in line.chunks(2) {
-        let [high, low] = pair else {
-            return Ok(None);
-        };
-        let Some(value) = byte(*high, *low) else {
+        let Some(value) = byte(pair) else {
             return Ok(None);
         };
         bytes.push(value)?;

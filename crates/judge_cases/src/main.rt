@@ -6,38 +6,32 @@ mod hexadecimal;
 use hexadecimal::bytes_of;
 use hierarchy::kept::Kept;
 use hierarchy::walked::Walked;
-use listing::judgement::judgement_of;
-use std::alloc::{AllocError, Global};
+use listing::judgement::{Judgement, judgement_of};
 use std::io;
 use std::io::{BufRead, BufReader};
 
-// The judgement of a book as a line, where both orders give the same one.
-fn judged(heap: Global, book: &[u8]) -> Result<String, AllocError> {
+// The judgement of a book, where both orders give the same one.
+fn judged(book: &[u8]) -> Option<Judgement> {
     let kept = judgement_of::<Kept>(book);
     let walked = judgement_of::<Walked>(book);
-    let line = format!(in heap; "{kept}")?;
-    let other = format!(in heap; "{walked}")?;
-    if line == other {
-        Ok(line)
-    } else {
-        String::from_str(heap, "differ")
-    }
+    (kept == walked).then_some(kept)
 }
 
-// What is printed for a line of the input.
-fn answer(heap: Global, line: &str) -> Result<String, AllocError> {
-    match bytes_of(heap, line.as_bytes())? {
-        Some(book) => judged(heap, &book),
-        None => String::from_str(heap, "bad line"),
+// Prints what there is to say of a line of the input.
+fn answer(rt: &HostRuntime, line: &str) -> io::Result<()> {
+    let Some(book) = bytes_of(rt.alloc(), line.as_bytes())? else {
+        return println!(rt; "bad line");
+    };
+    match judged(&book) {
+        Some(judgement) => println!(rt; "{judgement}"),
+        None => println!(rt; "differ"),
     }
 }
 
 fn main(rt: HostRuntime) -> io::Result<()> {
     let heap = rt.alloc();
     for line in BufReader::new(heap, rt.stdin())?.lines(heap) {
-        let text = line?;
-        let answer = answer(heap, &text)?;
-        println!(rt; "{answer}")?;
+        answer(&rt, &line?)?;
     }
     Ok(())
 }

@@ -1,9 +1,8 @@
 //! A book's records, and whether it is accepted or why it is refused, as text.
 ghost use Rattle.listing.specs.JudgedReports.{JudgedReports};
 
-use crate::inheriting::{write_subjects, write_types};
-use crate::refused::write_rejection;
-use crate::report::{write_counts, write_table};
+use crate::listed::Listed;
+use crate::refused::Explained;
 use acceptance::accepted::Book;
 use acceptance::rejection::Rejection;
 use book::contents::Records;
@@ -27,6 +26,7 @@ pub enum JudgedReport {
 pub fn judged_report_on(book: &[u8]) -> JudgedReport
     ensures { JudgedReports result book.now }
 {
+    // Three outcomes come from two results, so no combinator is plainer than this match.
     match Book::judge::<Kept>(book) {
         Ok(accepted) => JudgedReport::Accepted(accepted),
         Err(rejection) => match read(book) {
@@ -36,26 +36,18 @@ pub fn judged_report_on(book: &[u8]) -> JudgedReport
     }
 }
 
-// The records, a line each, and how many there are.
-fn write_records<W: fmt::Write>(f: &mut fmt::Formatter<W>, records: &Records) -> fmt::Result {
-    write_types(f, records)?;
-    write_table(f, &records.roles)?;
-    write_table(f, &records.groups)?;
-    write_table(f, &records.views)?;
-    write_subjects(f, records)?;
-    write_counts(f, records)
-}
-
 impl fmt::Display for JudgedReport {
     fn fmt<W: fmt::Write>(&self, f: &mut fmt::Formatter<W>) -> fmt::Result {
         match self {
             JudgedReport::Accepted(book) => {
-                write_records(f, book.records())?;
-                writeln!(f, "accepted")
+                writeln!(f, "{}accepted", Listed::inheriting(book.records()))
             }
             JudgedReport::Rejected(records, rejection) => {
-                write_records(f, records)?;
-                write_rejection(f, records.views.as_slice(), *rejection)
+                let why = Explained {
+                    views: records.views.as_slice(),
+                    rejection: *rejection,
+                };
+                writeln!(f, "{}{why}", Listed::inheriting(records))
             }
             JudgedReport::Refused(fault) => writeln!(f, "{fault}"),
         }

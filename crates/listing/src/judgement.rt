@@ -1,4 +1,5 @@
 //! The judgement of a book, as the line that programs print.
+ghost use Rattle.std.specs.Prelude.{◌≡◌};
 ghost use Rattle.listing.specs.Judgements.{Judges};
 
 use acceptance::accepted::Book;
@@ -7,39 +8,39 @@ use hierarchy::order::Hierarchy;
 use std::fmt;
 
 /// How a book is judged.
-#[derive(Clone, Copy)]
-pub enum Judgement {
-    /// It is accepted.
-    Accepted,
-    /// Why and where it is rejected.
-    Rejected(Rejection),
+#[derive(Clone, Copy, PartialEq, Eq, Debug)]
+pub struct Judgement {
+    /// It is accepted, or why and where it is rejected.
+    pub outcome: Result<(), Rejection>,
+}
+
+impl From<Result<(), Rejection>> for Judgement {
+    ghost from_gives = { λ outcome judgement. judgement.outcome ≡ outcome };
+
+    fn from(outcome: Result<(), Rejection>) -> Judgement {
+        Judgement { outcome }
+    }
 }
 
 /// Judges a book, through the hierarchy `H`.
 pub fn judgement_of<H: Hierarchy + Drop>(book: &[u8]) -> Judgement
     ensures { Judges result book.now }
 {
-    match Book::judge::<H>(book) {
-        Ok(_) => Judgement::Accepted,
-        Err(rejection) => Judgement::Rejected(rejection),
-    }
-}
-
-// The line of a rejection.
-fn write_rejected<W: fmt::Write>(f: &mut fmt::Formatter<W>, rejection: Rejection) -> fmt::Result {
-    let number = u8::from(rejection.reason);
-    let place = rejection.place;
-    match rejection.other {
-        Some(other) => write!(f, "book no {number} {place} {other}"),
-        None => write!(f, "book no {number} {place} -"),
+    Judgement {
+        outcome: Book::judge::<H>(book).map(|_| ()),
     }
 }
 
 impl fmt::Display for Judgement {
     fn fmt<W: fmt::Write>(&self, f: &mut fmt::Formatter<W>) -> fmt::Result {
-        match self {
-            Judgement::Accepted => write!(f, "book ok"),
-            Judgement::Rejected(rejection) => write_rejected(f, *rejection),
+        let Err(rejection) = self.outcome else {
+            return write!(f, "book ok");
+        };
+        let number = u8::from(rejection.reason);
+        write!(f, "book no {number} {} ", rejection.place)?;
+        match rejection.other {
+            Some(other) => write!(f, "{other}"),
+            None => write!(f, "-"),
         }
     }
 }

@@ -1,119 +1,107 @@
 //! A record as a line of text.
+use crate::named::Named;
 use records::{GroupRecord, RoleRecord, SubjectRecord, TypeRecord, View};
-use sets::NumberSet;
 use std::fmt;
 
-/// What can be written as a line, under its number.
-pub trait Line {
-    /// Writes what the record itself says, with no end of line.
-    fn write_fields<W: fmt::Write>(&self, f: &mut fmt::Formatter<W>, number: usize) -> fmt::Result;
+/// A record under its number.
+#[derive(Clone, Copy)]
+pub(crate) struct Numbered<'a, T>(pub usize, pub &'a T);
 
-    /// Writes the line.
-    fn write_line<W: fmt::Write>(&self, f: &mut fmt::Formatter<W>, number: usize) -> fmt::Result {
-        self.write_fields(f, number)?;
-        writeln!(f)
+impl fmt::Display for Numbered<'_, TypeRecord> {
+    fn fmt<W: fmt::Write>(&self, f: &mut fmt::Formatter<W>) -> fmt::Result {
+        let Numbered(number, record) = self;
+        let supertypes = Named("supertypes", record.supertypes);
+        let operations = Named("operations", record.operations);
+        write!(
+            f,
+            "type {number} at {}{supertypes}{operations}",
+            record.place
+        )
     }
 }
 
-/// A set by its members, under its name; nothing where it is empty.
-pub(crate) fn write_set<W: fmt::Write>(
-    f: &mut fmt::Formatter<W>,
-    name: &str,
-    set: NumberSet,
-) -> fmt::Result {
-    if set.is_empty() {
-        return Ok(());
-    }
-    write!(f, "; {name}")?;
-    for number in 0..64usize {
-        if set.contains(number) {
-            write!(f, " {number}")?;
-        }
-    }
-    Ok(())
-}
-
-impl Line for TypeRecord {
-    fn write_fields<W: fmt::Write>(&self, f: &mut fmt::Formatter<W>, number: usize) -> fmt::Result {
-        let place = self.place;
-        write!(f, "type {number} at {place}")?;
-        write_set(f, "supertypes", self.supertypes)?;
-        write_set(f, "operations", self.operations)
+impl fmt::Display for Numbered<'_, RoleRecord> {
+    fn fmt<W: fmt::Write>(&self, f: &mut fmt::Formatter<W>) -> fmt::Result {
+        let Numbered(number, record) = self;
+        let superroles = Named("superroles", record.superroles);
+        write!(f, "role {number} at {}{superroles}", record.place)
     }
 }
 
-impl Line for RoleRecord {
-    fn write_fields<W: fmt::Write>(&self, f: &mut fmt::Formatter<W>, number: usize) -> fmt::Result {
-        let place = self.place;
-        write!(f, "role {number} at {place}")?;
-        write_set(f, "superroles", self.superroles)
+impl fmt::Display for Numbered<'_, GroupRecord> {
+    fn fmt<W: fmt::Write>(&self, f: &mut fmt::Formatter<W>) -> fmt::Result {
+        let Numbered(number, record) = self;
+        let supergroups = Named("supergroups", record.supergroups);
+        let roles = Named("roles", record.roles);
+        write!(f, "group {number} at {}{supergroups}{roles}", record.place)
     }
 }
 
-impl Line for GroupRecord {
-    fn write_fields<W: fmt::Write>(&self, f: &mut fmt::Formatter<W>, number: usize) -> fmt::Result {
-        let place = self.place;
-        write!(f, "group {number} at {place}")?;
-        write_set(f, "supergroups", self.supergroups)?;
-        write_set(f, "roles", self.roles)
+impl fmt::Display for Numbered<'_, View> {
+    fn fmt<W: fmt::Write>(&self, f: &mut fmt::Formatter<W>) -> fmt::Result {
+        let Numbered(number, view) = self;
+        let bases = Named("bases", view.bases);
+        let required = Named("required views", view.required);
+        let restriction = Named("role restriction", view.restriction);
+        write!(
+            f,
+            "view {number} at {}; type {}",
+            view.place, view.controlled
+        )?;
+        write!(f, "{bases}{required}{restriction}")?;
+        write!(f, "{}{}", Modifiers(view), Operations(view))
+    }
+}
+
+impl fmt::Display for Numbered<'_, SubjectRecord> {
+    fn fmt<W: fmt::Write>(&self, f: &mut fmt::Formatter<W>) -> fmt::Result {
+        let Numbered(number, record) = self;
+        let groups = Named("groups", record.groups);
+        write!(f, "subject {number} at {}{groups}", record.place)
     }
 }
 
 // The modifiers of a view, by their names.
-fn write_modifiers<W: fmt::Write>(f: &mut fmt::Formatter<W>, view: &View) -> fmt::Result {
-    if view.is_assignable() {
-        write!(f, "; assignable")?;
-    }
-    if view.is_virtual() {
-        write!(f, "; virtual")?;
-    }
-    if view.is_static() {
-        write!(f, "; static")?;
-    }
-    Ok(())
-}
+#[derive(Clone, Copy)]
+struct Modifiers<'a>(&'a View);
 
-// A right for an operation, where the view has it.
-fn write_right<W: fmt::Write>(
-    f: &mut fmt::Formatter<W>,
-    set: NumberSet,
-    operation: usize,
-    right: &str,
-) -> fmt::Result {
-    if set.contains(operation) {
-        write!(f, "; operation {operation} {right}")?;
+impl fmt::Display for Modifiers<'_> {
+    fn fmt<W: fmt::Write>(&self, f: &mut fmt::Formatter<W>) -> fmt::Result {
+        let view = self.0;
+        let modifiers = [
+            (view.is(Modifier::Assignable), "assignable"),
+            (view.is(Modifier::Virtual), "virtual"),
+            (view.is(Modifier::Static), "static"),
+        ];
+        for (there, modifier) in modifiers {
+            if there {
+                write!(f, "; {modifier}")?;
+            }
+        }
+        Ok(())
     }
-    Ok(())
 }
 
 // The rights of a view, operation by operation.
-fn write_rights<W: fmt::Write>(f: &mut fmt::Formatter<W>, view: &View) -> fmt::Result {
-    for operation in 0..64usize {
-        write_right(f, view.weak.permitted, operation, "weakly permitted")?;
-        write_right(f, view.strong.permitted, operation, "strongly permitted")?;
-        write_right(f, view.weak.denied, operation, "weakly denied")?;
-        write_right(f, view.strong.denied, operation, "strongly denied")?;
-    }
-    Ok(())
-}
+#[derive(Clone, Copy)]
+struct Operations<'a>(&'a View);
 
-impl Line for View {
-    fn write_fields<W: fmt::Write>(&self, f: &mut fmt::Formatter<W>, number: usize) -> fmt::Result {
-        let place = self.place;
-        let controlled = self.controlled;
-        write!(f, "view {number} at {place}; type {controlled}")?;
-        write_set(f, "bases", self.bases)?;
-        write_set(f, "required views", self.required)?;
-        write_set(f, "role restriction", self.restriction)?;
-        write_modifiers(f, self)?;
-        write_rights(f, self)
-    }
-}
-
-impl Line for SubjectRecord {
-    fn write_fields<W: fmt::Write>(&self, f: &mut fmt::Formatter<W>, number: usize) -> fmt::Result {
-        let place = self.place;
-        write!(f, "subject {number} at {place}")?;
-        write_set(f, "groups", self.groups)
+impl fmt::Display for Operations<'_> {
+    fn fmt<W: fmt::Write>(&self, f: &mut fmt::Formatter<W>) -> fmt::Result {
+        let view = self.0;
+        let rights = [
+            (view.weak.permitted, "weakly permitted"),
+            (view.strong.permitted, "strongly permitted"),
+            (view.weak.denied, "weakly denied"),
+            (view.strong.denied, "strongly denied"),
+        ];
+        for operation in 0..64usize {
+            for (set, right) in rights {
+                if set.contains(operation) {
+                    write!(f, "; operation {operation} {right}")?;
+                }
+            }
+        }
+        Ok(())
     }
 }

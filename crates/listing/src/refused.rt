@@ -1,4 +1,4 @@
-//! Why a book is refused, as a line of text.
+//! Why a book is rejected, as text for its author.
 ghost use Rattle.std.specs.Prelude.{◌≡◌, ◌<◌, length, MatchOption, slice_index_or};
 ghost use Rattle.book.specs.Declarations.{no_view};
 ghost use Rattle.listing.specs.JudgedReports.{NoneAt};
@@ -11,44 +11,51 @@ use std::fmt;
 fn view_at(views: &[View], place: usize) -> Option<usize>
     ensures { MatchOption result (NoneAt views.now place (length views.now)) (λ n. (n < length views.now) × ((slice_index_or views.now n no_view).place ≡ place) × NoneAt views.now place n) }
 {
-    for number in 0..views.len() {
-        if views[number].place == place {
-            return Some(number);
-        }
-    }
-    None
+    views.iter().position(|view| view.place == place)
 }
 
-// The views that break the rule.
-fn write_views<W: fmt::Write>(
-    f: &mut fmt::Formatter<W>,
-    view: usize,
+// The views that break a rule, and how they break it.
+#[derive(Clone, Copy)]
+struct Broken {
     rule: Rule,
+    view: usize,
     other: Option<usize>,
-) -> fmt::Result {
-    write!(f, "view {view}")?;
-    match (rule, other) {
-        (Rule::Clashing, Some(second)) => write!(f, " and view {second}: "),
-        (_, Some(base)) => write!(f, " against its base view {base}: "),
-        (_, None) => write!(f, ": "),
+}
+
+impl fmt::Display for Broken {
+    fn fmt<W: fmt::Write>(&self, f: &mut fmt::Formatter<W>) -> fmt::Result {
+        write!(f, "view {}", self.view)?;
+        match (self.rule, self.other) {
+            (Rule::Clashing, Some(second)) => write!(f, " and view {second}")?,
+            (_, Some(base)) => write!(f, " against its base view {base}")?,
+            (_, None) => {}
+        }
+        write!(f, ": {}", self.rule)
     }
 }
 
 /// A rejection, the views that it is about, and what it means.
-pub(crate) fn write_rejection<W: fmt::Write>(
-    f: &mut fmt::Formatter<W>,
-    views: &[View],
-    rejection: Rejection,
-) -> fmt::Result {
-    let number = u8::from(rejection.reason);
-    write!(f, "refused {number} at {}: ", rejection.place)?;
-    match rejection.reason {
-        Reason::OfForm(refusal) => writeln!(f, "{refusal}"),
-        Reason::OfRule(rule) => {
-            if let Some(view) = view_at(views, rejection.place) {
-                write_views(f, view, rule, rejection.other)?;
-            }
-            writeln!(f, "{rule}")
+#[derive(Clone, Copy)]
+pub(crate) struct Explained<'a> {
+    pub views: &'a [View],
+    pub rejection: Rejection,
+}
+
+impl fmt::Display for Explained<'_> {
+    fn fmt<W: fmt::Write>(&self, f: &mut fmt::Formatter<W>) -> fmt::Result {
+        let Rejection {
+            reason,
+            place,
+            other,
+        } = self.rejection;
+        let number = u8::from(reason);
+        write!(f, "refused {number} at {place}: ")?;
+        match reason {
+            Reason::OfForm(refusal) => write!(f, "{refusal}"),
+            Reason::OfRule(rule) => match view_at(self.views, place) {
+                Some(view) => write!(f, "{}", Broken { rule, view, other }),
+                None => write!(f, "{rule}"),
+            },
         }
     }
 }

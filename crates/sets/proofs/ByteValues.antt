@@ -1,7 +1,8 @@
 -- Numbers and their bytes, the highest first.
 use Rattle.std.proofs.Common.{◌≡◌, ℕ, zero, suc, ◌+◌, ◌-◌, ◌*◌, ◌/◌, ◌%◌, ◌^◌, ◌<◌, ◌≤◌, List, [], ◌∷◌, ◌++◌, length, get_or, take, sym, refl, ap, ◌∙◌, subst, ⊎_elim, pow-suc, add-one, arith}
 use Rattle.std.specs.Int.Digits.{number_from_digits, AllBelowBase}
-use Rattle.std.proofs.lemmas.Nat.{shr-shr, div-mul-add, mod-mul-add, field_of, mod-pow-add}
+use Rattle.std.proofs.lemmas.Nat.{div-mul-add, mod-mul-add}
+use Rattle.std.proofs.lemmas.Nat.Bits.{bit_at_cat_low, bit_at_cat_high}
 use Rattle.std.proofs.lemmas.Int.Digits.{number_push, number_more}
 use Rattle.std.proofs.ByRecursion.{All-get_or, All-push}
 use Rattle.std.proofs.lemmas.List.{take_more, take_all, length_push}
@@ -12,23 +13,11 @@ use Rattle.sets.proofs.Membership.{not_in_none}
 
 -- the bits of a number with one more byte at its low end: those of the byte
 low_byte : (k x b : ℕ) → b < 256 → k < 8 → Iff (Bit k (x * 256 + b)) (Bit k b)
-low_byte k x b l h =
-    let n : ℕ = x * 256 + b in
-    let j : ℕ = 8 - suc k in
-    let e : suc j + k ≡ 8 = omega arith in
-    let f : b / 2 ^ k ≡ n / 2 ^ k % 2 ^ suc j =
-    ap (λ m. m / 2 ^ k) (sym (mod-mul-add x 256 b l)) ∙ ap (λ m. n % 2 ^ m / 2 ^ k) (sym e) ∙ field_of n (suc j) k in
-    let g : n / 2 ^ k % 2 ^ suc j ≡ (n / 2 ^ k / 2 ^ 1 % 2 ^ j) * 2 ^ 1 + n / 2 ^ k % 2 ^ 1 =
-    ap (λ m. n / 2 ^ k % 2 ^ m) (sym (add-one j)) ∙ mod-pow-add (n / 2 ^ k) j 1 in
-    (λ i. omega arith, λ i. omega arith)
+low_byte k x b l h = let e = bit_at_cat_low x 8 b k h in (λ i. sym e ∙ i, λ i. e ∙ i)
 
 -- and above them those of the number, eight higher
 high_byte : (k x b : ℕ) → b < 256 → 8 ≤ k → Iff (Bit k (x * 256 + b)) (Bit (k - 8) x)
-high_byte k x b l h =
-    let e : k ≡ 8 + (k - 8) = omega arith in
-    let d : (x * 256 + b) / 2 ^ 8 ≡ x = omega arith in
-    let f = ap (λ n. (x * 256 + b) / 2 ^ n) e ∙ sym (shr-shr (x * 256 + b) 8 (k - 8)) ∙ ap (λ n. n / 2 ^ (k - 8)) d in
-    (λ i. ap (λ n. n % 2) (sym f) ∙ i, λ i. ap (λ n. n % 2) f ∙ i)
+high_byte k x b l h = let e = bit_at_cat_high x 8 b k l h in (λ i. sym e ∙ i, λ i. e ∙ i)
 
 -- bit k of a number stands in the byte k / 8 from the end
 bits_of_bytes : (ds : List ℕ) → AllBelowBase 256 ds → (i : ℕ) → i ≤ length ds → (k : ℕ)

@@ -1,10 +1,11 @@
 -- How many bits of a number are set, as a list of them.
-use Rattle.std.proofs.Common.{◌≡◌, ℕ, zero, suc, ◌/◌, ◌%◌, ◌^◌, ◌<◌, ◌⊎◌, List, [], ◌∷◌, map, sym, refl, ap, ◌∙◌, subst, inl, inr, ⊎_elim, pow-suc, arith}
+use Rattle.std.proofs.Common.{◌≡◌, ℕ, zero, suc, ◌/◌, ◌^◌, ◌<◌, ◌⊎◌, List, [], ◌∷◌, map, sym, refl, ap, ◌∙◌, subst, inl, inr, ⊎_elim, pow-suc, arith}
 use lib.Count.{ones, ones_step}
 use Rattle.std.proofs.lemmas.List.{length-map}
+use Rattle.std.proofs.lemmas.Nat.Bits.{bit_at-suc}
 use Rattle.sets.specs.Members.{Bit, Iff}
 use Rattle.sets.specs.Counting.{Listed, Distinct, HowMany}
-use Rattle.sets.proofs.Membership.{in_more, low, at_none, not_in_none}
+use Rattle.sets.proofs.Membership.{clear_or_set, not_in_none}
 
 listed_up : (k : ℕ) (xs : List ℕ) → Listed k xs → Listed (suc k) (map suc xs)
 listed_up k [] h = elim h [ ]
@@ -41,9 +42,8 @@ bits_counted (suc n) s l =
     let step = ones_step s in
     let size = length-map xs suc in
     let total = half.3 in
-    let even = at_none s in
     let above : (j : ℕ) → Iff (Listed (suc j) (map suc xs)) (Bit (suc j) s) =
-    λ j. let e = ap (λ x. x % 2) (in_more j s) in
+    λ j. let e = sym (bit_at-suc s j) in
     (λ h. sym e ∙ (half.2 j).0 (listed_down j xs h), λ h. listed_up j xs ((half.2 j).1 (e ∙ h))) in
     ⊎_elim
     (λ z. (
@@ -61,4 +61,4 @@ bits_counted (suc n) s l =
       ],
       omega arith,
     ))
-    (low s)
+    (clear_or_set 0 s)

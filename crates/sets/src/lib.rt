@@ -1,14 +1,18 @@
 //! Sets of the numbers 0 to 63, kept as the bits of one word.
 #![tactic(auto)]
 
-ghost use Rattle.std.specs.Prelude.{◌≡◌, ℕ, ◌-◌, ◌/◌, ◌%◌, ◌<◌, true, ◌⊎◌, [], MatchOption, slice_index};
+ghost use Rattle.std.specs.Prelude.{◌≡◌, ◌≢◌, ℕ, ◌-◌, ◌/◌, ◌%◌, ◌<◌, true, ◌⊎◌, [], MatchOption, slice_index};
 ghost use Rattle.sets.specs.Members.{Bit, In, Iff};
 ghost use Rattle.sets.specs.Counting.{HowMany};
 ghost use Rattle.sets.specs.Bytes.{set_of};
 ghost use Rattle.sets.specs.Tests.{is_empty, is_below};
 
+pub mod members;
+
+use members::Members;
+
 /// A set of numbers, each at most 63.
-#[derive(Clone, Copy, PartialEq, Eq)]
+#[derive(Clone, Copy, PartialEq, Eq, Default, Debug)]
 pub struct NumberSet {
     bits: u64,
 }
@@ -20,31 +24,6 @@ impl NumberSet {
         ensures members { (k : ℕ) → In k result → ⊥ }
     {
         NumberSet { bits: 0 }
-    }
-
-    /// The set that eight bytes stand for, the highest first: bit i of the whole stands for number i.
-    pub fn from_bytes(bytes: [u8; 8]) -> NumberSet
-        ensures value { result ≡ set_of bytes }
-        ensures members { (k : ℕ) → Iff (In k result) ((k < 64) × Bit (k % 8) (slice_index bytes (7 - k / 8))) }
-    {
-        NumberSet {
-            bits: u64::from_be_bytes(bytes),
-        }
-    }
-
-    /// The set whose members are the bits of a word.
-    pub fn from_bits(bits: u64) -> NumberSet
-        ensures { result.bits ≡ bits }
-    {
-        NumberSet { bits }
-    }
-
-    /// The word whose bits are the members.
-    pub fn bits(self) -> u64
-        ensures { result ≡ self.bits }
-    {
-        let NumberSet { bits } = self;
-        bits
     }
 
     /// Whether the number is a member; one past 63 never is.
@@ -60,6 +39,18 @@ impl NumberSet {
     {
         if number < 64 {
             self.bits |= 1 << number;
+        }
+    }
+
+    /// The members other than the number.
+    pub fn without(self, number: usize) -> NumberSet
+        ensures { (k : ℕ) → Iff (In k result) (In k self × (k ≢ number)) }
+    {
+        if number >= 64 {
+            return self;
+        }
+        NumberSet {
+            bits: self.bits & !(1 << number),
         }
     }
 
@@ -114,6 +105,13 @@ impl NumberSet {
         Some(self.bits.trailing_zeros() as usize)
     }
 
+    /// The members, in rising order.
+    pub fn iter(self) -> Members
+        ensures { result.left ≡ self }
+    {
+        Members { left: self }
+    }
+
     /// How many members the set has.
     pub fn len(self) -> usize
         ensures { HowMany (λ k. In k self) result }
@@ -126,5 +124,34 @@ impl NumberSet {
         ensures { Iff (result ≡ true) ((k : ℕ) → Iff (In k self) (In k other)) }
     {
         self == other
+    }
+}
+
+impl From<u64> for NumberSet {
+    ghost from_gives = { λ word s. s.bits ≡ word };
+
+    /// The set whose members are the bits of a word.
+    fn from(word: u64) -> NumberSet {
+        NumberSet { bits: word }
+    }
+}
+
+impl From<NumberSet> for u64 {
+    ghost from_gives = { λ s word. word ≡ s.bits };
+
+    /// The word whose bits are the members.
+    fn from(set: NumberSet) -> u64 {
+        set.bits
+    }
+}
+
+impl From<[u8; 8]> for NumberSet {
+    ghost from_gives = { λ bytes s. (s ≡ set_of bytes) × ((k : ℕ) → Iff (In k s) ((k < 64) × Bit (k % 8) (slice_index bytes (7 - k / 8)))) };
+
+    /// The set that eight bytes stand for, the highest first: bit i of the whole stands for number i.
+    fn from(bytes: [u8; 8]) -> NumberSet {
+        NumberSet {
+            bits: u64::from_be_bytes(bytes),
+        }
     }
 }

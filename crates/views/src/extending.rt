@@ -5,12 +5,14 @@ ghost use Rattle.views.specs.ViewRules.{RequirementsFollow, RightsFollow};
 
 use crate::rights::{denials, permissions, rights};
 use records::View;
+use records::modifiers::Modifier;
 
 /// Whether required views and static are taken over.
 pub fn requirements_follow(view: &View, base: &View) -> bool
     ensures { Iff (result ≡ true) (RequirementsFollow view.now base.now) }
 {
-    base.required.is_subset(view.required) && (!base.is_static() || view.is_static())
+    base.required.is_subset(view.required)
+        && (!base.is(Modifier::Static) || view.is(Modifier::Static))
 }
 
 /// Whether the rights are those of the base in an allowed form, and new ones permit.

@@ -10,12 +10,12 @@ use sets::NumberSet;
 fn is_below_some<H: Hierarchy>(order: &H, number: usize, set: NumberSet) -> bool
     ensures { Iff (result ≡ true) (Exists (λ s. In s set × H.Hierarchy.pairs order.now number s)) }
 {
-    (0..64usize).any(|above| set.contains(above) && order.at_or_below(number, above))
+    set.iter().any(|above| order.at_or_below(number, above))
 }
 
 /// Whether each member of a set lies at or below a member of the other.
 pub fn are_below<H: Hierarchy>(order: &H, set: NumberSet, other: NumberSet) -> bool
     ensures { Iff (result ≡ true) ((k : ℕ) → In k set → Exists (λ s. In s other × H.Hierarchy.pairs order.now k s)) }
 {
-    (0..64usize).all(|number| !set.contains(number) || is_below_some(order, number, other))
+    set.iter().all(|number| is_below_some(order, number, other))
 }

@@ -5,6 +5,7 @@ ghost use Rattle.views.specs.ViewRules.{OneRight, AssignableDeniesNothing, Virtu
 
 use crate::rights::{are_disjoint, denials, permissions, rights};
 use records::View;
+use records::modifiers::Modifier;
 
 /// Whether no operation has two rights.
 pub fn has_one_right(view: &View) -> bool
@@ -19,12 +20,12 @@ pub fn has_one_right(view: &View) -> bool
 pub fn keeps_assignable(view: &View) -> bool
     ensures { Iff (result ≡ true) (AssignableDeniesNothing view.now) }
 {
-    !view.is_assignable() || denials(view).is_empty()
+    !view.is(Modifier::Assignable) || denials(view).is_empty()
 }
 
 /// Whether the view has no right where it is virtual.
 pub fn keeps_virtual(view: &View) -> bool
     ensures { Iff (result ≡ true) (VirtualHasNone view.now) }
 {
-    !view.is_virtual() || rights(view).is_empty()
+    !view.is(Modifier::Virtual) || rights(view).is_empty()
 }

@@ -23,14 +23,14 @@ abbrev pub within : ℕ → ℕ → Bool
 within a b = eqb (bit_and a b) a
 
 pub tells_within : (a b : ℕ) → a < 2 ^ 64 → b < 2 ^ 64 → Tells (within a b) ((k : ℕ) → Bit k a → Bit k b)
-tells_within a b l m = tells_also (member.subset a b l m) (tells_equal (bit_and a b) a)
+tells_within a b l m = tells_also (member.subset a b) (tells_equal (bit_and a b) a)
 
 -- nothing is in the set
 abbrev pub bare : ℕ → Bool
 bare a = eqb a 0
 
 pub tells_bare : (a : ℕ) → a < 2 ^ 64 → Tells (bare a) ((k : ℕ) → Bit k a → ⊥)
-tells_bare a l = tells_also (λ e k h. member.not_in_none k (subst (Bit k) e h), member.empty a l) (tells_equal a 0)
+tells_bare a l = tells_also (λ e k h. member.not_in_none k (subst (Bit k) e h), member.empty a) (tells_equal a 0)
 
 -- something is in the set
 pub tells_inhabited : (a : ℕ) → a < 2 ^ 64 → Tells (not (bare a)) (Exists (λ k. Bit k a))

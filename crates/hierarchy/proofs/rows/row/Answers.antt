@@ -1,47 +1,56 @@
-use Rattle.std.proofs.Common.{◌≡◌, ℕ, ◌+◌, ◌<◌, sym, subst, arith}
-use Rattle.std.proofs.lemmas.Bool.{both_ways}
-use Rattle.sets.specs.Members.{Bit, In}
+use Rattle.std.proofs.Common.{◌≡◌, ℕ, ◌<◌, ◌^◌, ◌∙◌, List, ◌∷◌, rules, sym, ap, subst, arith}
+use Rattle.sets.specs.declared.NumberSet.{NumberSet}
+use Rattle.sets.specs.Members.{Bit, In, members}
+use Rattle.sets.proofs.Gathering.{Gathered, gathered_start, gathered_more, gathered_next, gathered_all}
+use Rattle.hierarchy.specs.Order.{Below, links_of}
+use Rattle.hierarchy.specs.declared.links.Links.{Links}
 use Rattle.hierarchy.specs.Linking.{linked}
-use Rattle.hierarchy.specs.LinkingLemmas.{length_linked, falling}
+use Rattle.hierarchy.specs.LinkingLemmas.{falling}
 use Rattle.hierarchy.proofs.Walks.{only}
-use Rattle.hierarchy.proofs.Parts.{Part, part_start, part_take, part_pass, part_done}
+use Rattle.hierarchy.proofs.Parts.{row_done}
 use Rattle.hierarchy.proofs.rows.row.Goals as goal
-use Rattle.hierarchy.proofs.rows.row.Goals.{then-contains, else-contains}
+
+-- a number that comes next is directly above, and so lower
+lower : (l : Links) (n x : ℕ) (start s above all : NumberSet) (before rest : List ℕ) → s ≡ above → above ≡ links_of (linked l) n → before ≡ x ∷ rest → Gathered (Below (linked l)) start (members s) before all → x < n
+lower l n x start s above all before rest i a e g = (falling l).1 n x (subst (In x) (i ∙ a) (gathered_next (Below (linked l)) start s all before rest x e g))
 
 pub loop-lower-init : goal.loop-lower-init
-loop-lower-init c =
-    let l = c.args.links.now in
-    let n = c.args.number in
-    let e = length_linked l in
-    let w = l.few in
+loop-lower-init c = gathered_start _ _ _
+
+pub offset_bounds-of-lower : goal.offset_bounds-of-lower
+offset_bounds-of-lower c =
     let p = c.requires.0 in
-    let small : n < 64 = omega arith in
-    part_start (linked l) n c.insert.new.self p (only c.empty-row.result c.insert.new.self n small c.empty-row.ensures.members c.insert.ensures)
+    let n = (falling c.args.links.now).0 in
+    let i = ap (λ m. m.left) c.into_iter-lower-iterator.ensures.into_iter_gives ∙ c.iter-lower-items.ensures in
+    let l = lower c.args.links.now c.args.number c.in-Some.lower _ _ _ _ _ _ i c.above.ensures c.in-Some.ensures.steps c.loop-lower.invariant in
+    search (rules, arith)
+
+pub bounds-of-lower : goal.bounds-of-lower
+bounds-of-lower c =
+    let p = c.requires.0 in
+    let n = (falling c.args.links.now).0 in
+    let i = ap (λ m. m.left) c.into_iter-lower-iterator.ensures.into_iter_gives ∙ c.iter-lower-items.ensures in
+    let l = lower c.args.links.now c.args.number c.in-Some.lower _ _ _ _ _ _ i c.above.ensures c.in-Some.ensures.steps c.loop-lower.invariant in
+    omega arith
 
 pub loop-lower-preserved : goal.loop-lower-preserved
 loop-lower-preserved c =
-    let links = linked c.args.links.now in
-    let n = c.args.number in
-    let b = c.loop-lower.lower in
-    let row = c.loop-lower.row in
-    elim c.if-contains.branch [
-      | then-contains w ↦
-          let told = λ (k : ℕ). c.requires.1 b k c.loop-lower-test.true in
-          let e = w.from_bits.ensures in
-          subst (Part links n (b + 1)) (sym w.row-is)
-          (part_take links n b row w.union-row.result w.from_bits.result c.loop-lower.invariant
-          (subst (In b) c.above-above.ensures (c.contains.ensures.0 w.if-contains.true))
-          (λ k. (λ h. (told k).0 (subst (Bit k) e h), λ h. subst (Bit k) (sym e) ((told k).1 h)))
-          w.union-row.ensures)
-      | else-contains w ↦
-          subst (Part links n (b + 1)) (sym w.row-is)
-          (part_pass links n b row c.loop-lower.invariant (λ h. both_ways c.contains.result w.if-contains.false (c.contains.ensures.1 (subst (In b) (sym c.above-above.ensures) h))))
-    ]
+    let b = c.in-Some.lower in
+    let i = ap (λ m. m.left) c.into_iter-lower-iterator.ensures.into_iter_gives ∙ c.iter-lower-items.ensures in
+    let told = λ (k : ℕ). c.requires.1 b k (lower c.args.links.now c.args.number b _ _ _ _ _ _ i c.above.ensures c.in-Some.ensures.steps c.loop-lower.invariant) in
+    let f = c.from.ensures in
+    gathered_more (Below (linked c.args.links.now)) _ _ _ _ b _ _ c.from.result c.in-Some.ensures.steps c.loop-lower.invariant
+    (λ k. (λ h. (told k).0 (subst (Bit k) f h), λ h. subst (Bit k) (sym f) ((told k).1 h)))
+    c.union-row.ensures
 
 pub returns : goal.returns
 returns c =
-    let l = c.args.links.now in
+    let links = linked c.args.links.now in
     let n = c.args.number in
-    let e : c.loop-lower.lower ≡ n = omega arith in
-    let p : Part (linked l) n n c.loop-lower.row = subst (λ x. Part (linked l) n x c.loop-lower.row) e c.loop-lower.invariant in
-    part_done (linked l) n c.loop-lower.row (falling l) p
+    let p = c.requires.0 in
+    let l = (falling c.args.links.now).0 in
+    let i : c.into_iter-lower-iterator.result.left ≡ c.above.result = ap (λ m. m.left) c.into_iter-lower-iterator.ensures.into_iter_gives ∙ c.iter-lower-items.ensures in
+    let w = subst (λ (s : NumberSet). s.bits < 2 ^ 64) (sym i) (omega arith) in
+    row_done links n c.insert.new.self c.into_iter-lower-iterator.result.left c.loop-lower.row p (only c.empty-row.result c.insert.new.self n (omega arith) c.empty-row.ensures.members c.insert.ensures)
+    (i ∙ c.above.ensures)
+    (gathered_all (Below links) c.insert.new.self _ _ _ w c.in-None.ensures.steps.0 c.loop-lower.invariant)

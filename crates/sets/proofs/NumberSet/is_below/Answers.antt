@@ -12,13 +12,13 @@ returns-then-limit-ge64 c =
     let p = pow_mono past in
     let b : s < 2 ^ c.args.limit = omega arith in
     let e = le-leb 64 c.args.limit past in
-    record { value = e ∙ sym (lt-ltb s (2 ^ c.args.limit) b); members = (λ h. (below c.args.limit s l).0 b, λ h. e) }
+    record { value = e ∙ sym (lt-ltb s (2 ^ c.args.limit) b); members = (λ h. (below c.args.limit s).0 b, λ h. e) }
 
 pub returns-else-limit-ge64 : goal.returns-else-limit-ge64
 returns-else-limit-ge64 c =
     let s = c.args.self.bits in
     let n = c.args.limit in
-    let w = below n s (omega arith) in
+    let w = below n s in
     let q = shifted_out n s in
     record {
       value = same_from_decides _ _ (Decides-like _ q.0 q.1 (Decides-eqb _ 0)) (Decides-ltb s (2 ^ n));

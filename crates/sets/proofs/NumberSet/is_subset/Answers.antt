@@ -1,9 +1,6 @@
-use Rattle.std.proofs.Common.{arith}
 use Rattle.std.proofs.lemmas.Bool.{eqb-true, eq-eqb}
 use Rattle.sets.proofs.Membership.{subset}
 use Rattle.sets.proofs.NumberSet.is_subset.Goals as goal
 
 pub returns : goal.returns
-returns c =
-    let s = subset c.args.self.bits c.args.other.bits (omega arith) (omega arith) in
-    (λ h. s.0 (eqb-true _ _ h), λ h. eq-eqb _ _ (s.1 h))
+returns c = let s = subset c.args.self.bits c.args.other.bits in (λ h. s.0 (eqb-true _ _ h), λ h. eq-eqb _ _ (s.1 h))

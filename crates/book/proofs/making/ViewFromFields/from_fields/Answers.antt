@@ -2,11 +2,11 @@ use Rattle.std.proofs.Common.{◌∷◌}
 use Rattle.book.specs.declared.phase.Phase.TheVariants.{Views}
 use Rattle.book.specs.Layout.{names, controlled, terms_fields}
 use Rattle.book.proofs.Taken.{length_left}
-use Rattle.book.proofs.contents.Records.view_from.Goals as goal
+use Rattle.book.proofs.making.ViewFromFields.from_fields.Goals as goal
 
 -- three fields were taken, and the others are still there
-pub terms_from-requires : goal.terms_from-requires
-terms_from-requires c =
+pub terms_of-requires : goal.terms_of-requires
+terms_of-requires c =
     let f = c.args.fields in
     let a = c.controlled.new.self in
     let b = c.numbers.new.self in

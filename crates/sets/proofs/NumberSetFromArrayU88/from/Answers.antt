@@ -4,7 +4,7 @@ use Rattle.std.proofs.ByRecursion.{All-from_get_or}
 use Rattle.sets.specs.declared.NumberSet.{NumberSet}
 use Rattle.sets.specs.Members.{Bit, Iff}
 use Rattle.sets.proofs.ByteValues.{members_of_bytes}
-use Rattle.sets.proofs.NumberSet.from_bytes.Goals as goal
+use Rattle.sets.proofs.NumberSetFromArrayU88.from.Goals as goal
 
 -- the number that eight bytes make, written out
 written_out : (ds : List ℕ) → length ds ≡ 8
@@ -27,8 +27,7 @@ returns c =
     let l : length ds ≡ 8 = search rules in
     let fit : (i : ℕ) → Fits w8 (get_or ds i 0) = λ i. search rules in
     let u : AllBelowBase 256 ds = All-from_get_or (λ d. d < 256) ds 0 (λ i _. (fit i).fits) in
-    let e : c.from_be_bytes.result ≡ number_from_digits 256 ds = c.from_be_bytes.ensures ∙ sym (written_out ds l) in
-    record {
-      value = ap (λ n. let s : NumberSet = record { bits = n } in s) e;
-      members = λ k. subst (λ n. Iff (Bit k n) ((k < 64) × Bit (k % 8) (get_or ds (7 - k / 8) 0))) (sym e) (members_of_bytes ds u l k);
-    }
+    let e : c.from_be_bytes.result ≡ number_from_digits 256 ds = c.from_be_bytes.ensures ∙ sym (written_out ds l) in (
+      ap (λ n. let s : NumberSet = record { bits = n } in s) e,
+      λ k. subst (λ n. Iff (Bit k n) ((k < 64) × Bit (k % 8) (get_or ds (7 - k / 8) 0))) (sym e) (members_of_bytes ds u l k),
+    )
