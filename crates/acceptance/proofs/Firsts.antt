@@ -4,7 +4,6 @@ use Rattle.std.proofs.lemmas.Bool.{cases_eq}
 use Rattle.std.proofs.lemmas.Bool.Decides.{not_from_Decides}
 use Rattle.std.proofs.lemmas.Result.{err_from_is_err_and}
 use Rattle.std.specs.Result.{IsErrAnd}
-use Rattle.records.specs.declared.View.{View}
 use Rattle.acceptance.specs.declared.rejection.Rejection.{Rejection}
 use Rattle.acceptance.specs.Checks.{Check, ◌unless◌, First, Checked, up_to}
 
@@ -92,10 +91,6 @@ pub checked_last : {P : Type 0} (e : Rejection) (holds : Bool) (r : Result (Unit
 unfolding Checked
 checked_last e holds (Ok u) t m = inr (t.0 m, refl)
 checked_last e holds (Err d) t m = inl (not_from_Decides holds t m.0, ap Some m.1)
-
--- a test on a base that is named tells of the view of its number
-pub of_named : {I : Type 0} (P : View → Type 0) → I → {base view : View} → base ≡ view → (r : Bool) → Decides r (P base) → Decides r (I → P view)
-of_named P i e r d = (λ h n. subst P e (d.0 h), λ f. d.1 (subst P (sym e) (f i)))
 
 -- ---- lists of checks
 
