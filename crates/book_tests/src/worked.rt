@@ -1,6 +1,7 @@
 //! The worked book of two types, two roles, a group, three views and two subjects.
 use crate::checks::{check, check_eq};
 use book::read::read;
+use records::modifiers::Modifier;
 use std::test::Fail;
 
 /// Its bytes.
@@ -54,7 +55,9 @@ fn fields_of_a_view() -> Result<(), Fail> {
     check_eq(view.controlled, 0)?;
     check_eq(view.bases.lowest(), Some(1))?;
     check(view.required.is_empty() && view.restriction.is_empty())?;
-    check(view.is(Modifier::Assignable) && !view.is(Modifier::Virtual) && !view.is(Modifier::Static))?;
+    check(
+        view.is(Modifier::Assignable) && !view.is(Modifier::Virtual) && !view.is(Modifier::Static),
+    )?;
     check_eq(view.weak.permitted.len(), 2)?;
     check(view.weak.permitted.contains(1) && view.weak.permitted.contains(2))?;
     check(

@@ -1,7 +1,9 @@
 //! A record as a line of text.
 use crate::named::Named;
+use records::modifiers::Modifier;
 use records::{GroupRecord, RoleRecord, SubjectRecord, TypeRecord, View};
 use std::fmt;
+use views::rights::rights as rights_of;
 
 /// A record under its number.
 #[derive(Clone, Copy)]
@@ -68,13 +70,8 @@ struct Modifiers<'a>(&'a View);
 impl fmt::Display for Modifiers<'_> {
     fn fmt<W: fmt::Write>(&self, f: &mut fmt::Formatter<W>) -> fmt::Result {
         let view = self.0;
-        let modifiers = [
-            (view.is(Modifier::Assignable), "assignable"),
-            (view.is(Modifier::Virtual), "virtual"),
-            (view.is(Modifier::Static), "static"),
-        ];
-        for (there, modifier) in modifiers {
-            if there {
+        for modifier in Modifier::ALL {
+            if view.is(modifier) {
                 write!(f, "; {modifier}")?;
             }
         }
@@ -95,7 +92,7 @@ impl fmt::Display for Operations<'_> {
             (view.weak.denied, "weakly denied"),
             (view.strong.denied, "strongly denied"),
         ];
-        for operation in 0..64usize {
+        for operation in rights_of(view).iter() {
             for (set, right) in rights {
                 if set.contains(operation) {
                     write!(f, "; operation {operation} {right}")?;

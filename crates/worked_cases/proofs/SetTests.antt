@@ -1,11 +1,12 @@
 -- Tests on sets of numbers below 64, each given as a number.
-use Rattle.std.proofs.Common.{◌≡◌, ℕ, zero, suc, ◌/◌, ◌%◌, ◌^◌, ◌<◌, Bool, true, false, cond, not, eqb, refl, subst, inl, inr, ⊎_elim, arith, pow_pos}
+use Rattle.std.proofs.Common.{◌≡◌, ℕ, zero, suc, ◌/◌, ◌%◌, ◌^◌, ◌<◌, Bool, true, false, cond, not, eqb, refl, subst, inl, inr, ⊎_elim, w64, arith, pow_pos}
 use mathlib.Core.Logic.{∥∥₁_elim, ∥∥₁_map}
 use mathlib.Core.HLevel.{⊥_prop}
 use native.Mathlib.Nat.{ℕ_set}
 use lib.Bits.{bit_and, bit_or, and_lt, or_lt}
 use lib.Count.{count_trailing_zeros}
 use Rattle.std.proofs.lemmas.Bool.{cases_eq}
+use Rattle.std.proofs.lemmas.Nat.Bits.{bit_at-trailing_zeros}
 use Rattle.sets.specs.Members.{Bit, Iff}
 use Rattle.sets.proofs.Membership as member
 use Rattle.views.specs.Some.{Exists}
@@ -36,7 +37,7 @@ tells_bare a l = tells_also (λ e k h. member.not_in_none k (subst (Bit k) e h),
 pub tells_inhabited : (a : ℕ) → a < 2 ^ 64 → Tells (not (bare a)) (Exists (λ k. Bit k a))
 tells_inhabited a l =
     tells_also (
-      λ n. let t = member.lowest 64 a (let p : a ≡ 0 → ⊥ = λ e. n (λ k h. member.not_in_none k (subst (Bit k) e h)) in omega (arith, p)) l in ∣ (count_trailing_zeros 64 a, t.member) ∣₁,
+      λ n. let t = bit_at-trailing_zeros w64 a (let p : a ≡ 0 → ⊥ = λ e. n (λ k h. member.not_in_none k (subst (Bit k) e h)) in omega (arith, p)) l in ∣ (count_trailing_zeros 64 a, t.1) ∣₁,
       λ p h. ∥∥₁_elim p ⊥_prop (λ s. h s.0 s.1),
     )
     (tells_not (tells_bare a l))
