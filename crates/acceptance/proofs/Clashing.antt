@@ -26,14 +26,6 @@ Before c i j = (a b : ℕ) → a < b → b < length c.views → (a < i) ⊎ ((a 
 abbrev pub Unshared : Records → ℕ → ℕ → ℕ → Type 0
 Unshared c i j n = (t : ℕ) → t < n → Shared c i j t → ⊥
 
-pub before_none : (c : Records) → Before c 0 0
-before_none c a b l m (inl e) = absurd (omega arith)
-before_none c a b l m (inr e) = absurd (let x = e.1 in omega arith)
-
-pub before_first : (c : Records) (i j : ℕ) → j ≤ i + 1 → Before c i 0 → Before c i j
-before_first c i j k h a b l m (inl e) = h a b l m (inl e)
-before_first c i j k h a b l m (inr e) = absurd (let x = e.0 in let y = e.1 in omega arith)
-
 pub before_more : (c : Records) (i j : ℕ) → Before c i j → (Clash c i j → ⊥) → Before c i (j + 1)
 before_more c i j h n a b l m (inl e) = h a b l m (inl e)
 before_more c i j h n a b l m (inr e) =
@@ -41,14 +33,6 @@ before_more c i j h n a b l m (inr e) =
     (λ q. let P : ℕ → Type 0 = λ y. Clash c i y → ⊥ in let x : Clash c i b → ⊥ = subst P (sym q) n in subst (λ y. Clash c y b → ⊥) (sym e.0) x)
     (λ q. h a b l m (inr (e.0, (let y = e.1 in omega (arith, q)))))
     (cases_eq b j)
-
-pub before_next : (c : Records) (i j : ℕ) → length c.views ≤ j → Before c i j → Before c (i + 1) 0
-before_next c i j k h a b l m (inl e) =
-    ⊎_elim
-    (λ q. h a b l m (inr (q, omega arith)))
-    (λ q. h a b l m (inl (omega (arith, q))))
-    (cases_eq a i)
-before_next c i j k h a b l m (inr e) = absurd (let y = e.1 in omega arith)
 
 -- a type that is below another is declared
 declared_below : (links : List NumberSet) (a b : ℕ) → Below links a b → a < length links

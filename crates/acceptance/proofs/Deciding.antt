@@ -1,13 +1,10 @@
 -- Checks that pass and rules that hold are the same, and a book has one judgement.
-use Rattle.std.proofs.Common.{◌≡◌, ℕ, ◌<◌, List, length, Some, None, Ok, Err, Option, Result, sym, ap, ◌∙◌, subst, inl, inr, arith}
+use Rattle.std.proofs.Common.{◌≡◌, ℕ, ◌<◌, List, length, Some, None, Ok, Err, ap, subst, inl, inr, arith}
 use Rattle.sets.specs.Members.{In}
-use Rattle.book.specs.declared.refusal.Fault.{Fault}
 use Rattle.book.specs.declared.contents.Records.{Records}
 use Rattle.book.specs.Declarations.{view_at, Declares}
-use Rattle.book.specs.Form.{reading}
 use Rattle.book.proofs.Declaring.{declares}
 use Rattle.acceptance.specs.declared.rejection.Rejection.{Rejection}
-use Rattle.acceptance.specs.Rejections.{form_fault}
 use Rattle.acceptance.specs.Rules.{Rules}
 use Rattle.acceptance.specs.Checks.{First, up_to, of_view, of_base, of_pair, of_view_and_bases, checks}
 use Rattle.acceptance.specs.Judgement.{Judged, OneJudgement, AcceptedByRules}
@@ -54,38 +51,23 @@ accepted_by_rules bs c = (
 
 -- ---- one judgement
 
-same_contents : (o : Result Records Fault) (c d : Records) → o ≡ Ok c → o ≡ Ok d → c ≡ d
-same_contents o c d p q = cc
-
-same_fault : (o : Result Records Fault) (f g : Fault) → o ≡ Err f → o ≡ Err g → f ≡ g
-same_fault o f g p q = cc
-
-not_both : (o : Result Records Fault) (c : Records) (f : Fault) → o ≡ Ok c → o ≡ Err f → ⊥
-not_both o c f p q = let z : ◌≡◌ {A = ℕ} 0 1 = cc in omega arith
-
-none_not_some : (e : Rejection) → ◌≡◌ {A = Option Rejection} None (Some e) → ⊥
-none_not_some e q = let z : ◌≡◌ {A = ℕ} 0 1 = cc in omega arith
-
-some_same : (d e : Rejection) → ◌≡◌ {A = Option Rejection} (Some d) (Some e) → d ≡ e
-some_same d e q = cc
-
 -- what was accepted cannot be rejected
 accepted_not_rejected : (bs : List ℕ) (c : Records) (e : Rejection) → Judged bs (Ok c) → Judged bs (Err e) → ⊥
-accepted_not_rejected bs c e p (inl q) = not_both (reading bs) c q.0 p.0 q.1
+accepted_not_rejected bs c e p (inl q) = cc (p.0, q.1)
 accepted_not_rejected bs c e p (inr q) =
-    let s = same_contents (reading bs) c q.0 p.0 q.1 in
-    none_not_some e (first_one (checks q.0) None (Some e) (subst (λ c. First (checks c) None) s p.1) q.2)
+    let s : c ≡ q.0 = cc (p.0, q.1) in
+    cc (first_one (checks q.0) None (Some e) (subst (λ c. First (checks c) None) s p.1) q.2)
 
 one_rejection : (bs : List ℕ) (d e : Rejection) → Judged bs (Err d) → Judged bs (Err e) → d ≡ e
-one_rejection bs d e (inl p) (inl q) = p.2 ∙ ap form_fault (same_fault (reading bs) p.0 q.0 p.1 q.1) ∙ sym q.2
-one_rejection bs d e (inl p) (inr q) = absurd (not_both (reading bs) q.0 p.0 q.1 p.1)
-one_rejection bs d e (inr p) (inl q) = absurd (not_both (reading bs) p.0 q.0 p.1 q.1)
+one_rejection bs d e (inl p) (inl q) = cc (p.1, p.2, q.1, q.2)
+one_rejection bs d e (inl p) (inr q) = cc (p.1, q.1)
+one_rejection bs d e (inr p) (inl q) = cc (p.1, q.1)
 one_rejection bs d e (inr p) (inr q) =
-    let s = same_contents (reading bs) p.0 q.0 p.1 q.1 in
-    some_same d e (first_one (checks q.0) (Some d) (Some e) (subst (λ c. First (checks c) (Some d)) s p.2) q.2)
+    let s : p.0 ≡ q.0 = cc (p.1, q.1) in
+    cc (first_one (checks q.0) (Some d) (Some e) (subst (λ c. First (checks c) (Some d)) s p.2) q.2)
 
 pub one_judgement : OneJudgement
-one_judgement bs (Ok c) (Ok d) p q = ap Ok (same_contents (reading bs) c d p.0 q.0)
+one_judgement bs (Ok c) (Ok d) p q = cc (p.0, q.0)
 one_judgement bs (Ok c) (Err e) p q = absurd (accepted_not_rejected bs c e p q)
 one_judgement bs (Err d) (Ok c) p q = absurd (accepted_not_rejected bs c d q p)
 one_judgement bs (Err d) (Err e) p q = ap Err (one_rejection bs d e p q)

@@ -4,7 +4,6 @@ use Rattle.std.proofs.lemmas.Bool.{cases_eq}
 use Rattle.std.proofs.lemmas.Bool.Decides.{not_from_Decides}
 use Rattle.std.proofs.lemmas.Result.{err_from_is_err_and}
 use Rattle.std.specs.Result.{IsErrAnd}
-use Rattle.records.specs.declared.View.{View}
 use Rattle.acceptance.specs.declared.rejection.Rejection.{Rejection}
 use Rattle.acceptance.specs.Checks.{Check, ◌unless◌, First, Checked, up_to}
 
@@ -13,16 +12,13 @@ abbrev pub Passes : List Check → Type 0
 Passes [] = Unit {0}
 Passes ((e unless P) ∷ cs) = P × Passes cs
 
-some_not_none : (e : Rejection) → ◌≡◌ {A = Option Rejection} None (Some e) → ⊥
-some_not_none e q = let z : ◌≡◌ {A = ℕ} 0 1 = cc in omega arith
-
 pub first_none : (cs : List Check) → Passes cs → First cs None
 first_none [] p = refl
 first_none ((e unless P) ∷ cs) p = inr (p.0, first_none cs p.1)
 
 pub none_first : (cs : List Check) → First cs None → Passes cs
 none_first [] f = tt
-none_first ((e unless P) ∷ cs) (inl f) = absurd (some_not_none e f.1)
+none_first ((e unless P) ∷ cs) (inl f) = let q = f.1 in absurd cc
 none_first ((e unless P) ∷ cs) (inr f) = (f.0, none_first cs f.1)
 
 pub first_behind : (xs ys : List Check) (r : Option Rejection) → Passes xs → First ys r → First (xs ++ ys) r
@@ -30,7 +26,7 @@ first_behind [] ys r p f = f
 first_behind ((e unless P) ∷ xs) ys r p f = inr (p.0, first_behind xs ys r p.1 f)
 
 pub first_before : (xs ys : List Check) (e : Rejection) → First xs (Some e) → First (xs ++ ys) (Some e)
-first_before [] ys e f = absurd (some_not_none e (sym f))
+first_before [] ys e f = let q : ◌≡◌ {A = Option Rejection} (Some e) None = f in absurd cc
 first_before ((d unless P) ∷ xs) ys e (inl f) = inl f
 first_before ((d unless P) ∷ xs) ys e (inr f) = inr (f.0, first_before xs ys e f.1)
 
@@ -95,10 +91,6 @@ pub checked_last : {P : Type 0} (e : Rejection) (holds : Bool) (r : Result (Unit
 unfolding Checked
 checked_last e holds (Ok u) t m = inr (t.0 m, refl)
 checked_last e holds (Err d) t m = inl (not_from_Decides holds t m.0, ap Some m.1)
-
--- a test on a base that is named tells of the view of its number
-pub of_named : {I : Type 0} (P : View → Type 0) → I → {base view : View} → base ≡ view → (r : Bool) → Decides r (P base) → Decides r (I → P view)
-of_named P i e r d = (λ h n. subst P e (d.0 h), λ f. d.1 (subst P (sym e) (f i)))
 
 -- ---- lists of checks
 

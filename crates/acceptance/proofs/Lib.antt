@@ -4,5 +4,7 @@ pub mod Meaning
 pub mod Clashing
 pub mod Deciding
 pub mod Truncated
+pub mod Visiting
+pub mod Based
 pub mod Accepting
 pub mod Extending

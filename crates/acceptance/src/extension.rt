@@ -1,5 +1,5 @@
 //! The rules for a view and a base that it names.
-ghost use Rattle.std.specs.Prelude.{◌≡◌, ◌<◌, true, length};
+ghost use Rattle.std.specs.Prelude.{◌≡◌, ℕ, ◌<◌, true, length};
 ghost use Rattle.sets.specs.Members.{In, Iff};
 ghost use Rattle.book.specs.Declarations.{view_at};
 ghost use Rattle.acceptance.specs.Rules.{TypeFollows, RestrictionFollows};
@@ -45,12 +45,11 @@ impl<H: Hierarchy> Orders<'_, H> {
 
     /// Checks the view against its bases, in rising order.
     pub(crate) fn check_bases(&self, view: &View) -> Result<(), Rejection>
+        requires { (k : ℕ) → In k view.now.bases → k < length self.now.records.now.views }
         ensures { Checked (up_to (length self.now.records.now.views) (of_base self.now.records.now view.now)) result }
     {
-        for number in 0..self.records.views.len() {
-            if view.bases.contains(number) {
-                self.check_base(view, number)?;
-            }
+        for number in view.bases.iter() {
+            self.check_base(view, number)?;
         }
         Ok(())
     }

@@ -28,14 +28,12 @@ pub fn group_roles<H: Hierarchy>(records: &Records, groups: &H, number: usize) -
 pub fn subject_roles<H: Hierarchy>(records: &Records, groups: &H, number: usize) -> NumberSet
     ensures { Means (H.Hierarchy.pairs groups.now) (group_links records.now) → (k : ℕ) → Iff (In k result) (SubjectRole records.now number k) }
 {
-    let mut roles = NumberSet::empty();
     let Some(subject) = records.subjects.get(number) else {
-        return roles;
+        return NumberSet::empty();
     };
-    for group in 0..64usize {
-        if subject.groups.contains(group) {
-            roles = roles.union(group_roles(records, groups, group));
-        }
+    let mut roles = NumberSet::empty();
+    for group in subject.groups.iter() {
+        roles = roles.union(group_roles(records, groups, group));
     }
     roles
 }

@@ -1,5 +1,6 @@
 //! Judging the records of a book.
-ghost use Rattle.std.specs.Prelude.{◌++◌, length};
+ghost use Rattle.std.specs.Prelude.{ℕ, ◌<◌, ◌++◌, length};
+ghost use Rattle.sets.specs.Members.{In};
 ghost use Rattle.book.specs.Declarations.{Declares};
 ghost use Rattle.acceptance.specs.Checks.{Checked, of_view, of_base, of_view_and_bases, of_pair, up_to, checks};
 
@@ -12,6 +13,7 @@ use records::View;
 impl<H: Hierarchy> Orders<'_, H> {
     // Checks the view by itself, and then against its bases.
     fn check_view(&self, view: &View) -> Result<(), Rejection>
+        requires { (k : ℕ) → In k view.now.bases → k < length self.now.records.now.views }
         ensures { Checked (of_view self.now.records.now view.now ++ up_to (length self.now.records.now.views) (of_base self.now.records.now view.now)) result }
     {
         self.check_own(view)?;

@@ -21,6 +21,7 @@ pub(crate) struct Orders<'r, H: Hierarchy> {
     types: H,
     roles: H,
     views: H,
+    ghost falls: { (i k : ℕ) → In k (view_at records.now i).bases → k < i },
     ghost of_types: { ∥ Means (H.Hierarchy.pairs types) (type_links records.now) ∥₁ },
     ghost of_roles: { ∥ Means (H.Hierarchy.pairs roles) (role_links records.now) ∥₁ },
     ghost of_views: { ∥ Means (H.Hierarchy.pairs views) (view_links records.now) ∥₁ },

@@ -9,13 +9,6 @@ use Rattle.views.specs.Some.{Exists}
 use Rattle.views.specs.Rights.{Right, weak_permission, strong_permission, weak_denial, strong_denial, Has, Denies, Becomes}
 use Rattle.views.specs.ViewRules.{OneRight, RightsKept, NewPermitted, RightsFollow}
 
--- an operation has a right, permitted or denied
-pub permitted_or_denied : (v : View) (x : Right) (o : ℕ) → Has v x o → (Has v weak_permission o ⊎ Has v strong_permission o) ⊎ ((y : Right) × Denies y × Has v y o)
-permitted_or_denied v weak_permission o h = inl (inl h)
-permitted_or_denied v strong_permission o h = inl (inr h)
-permitted_or_denied v weak_denial o h = inr (weak_denial, tt, h)
-permitted_or_denied v strong_denial o h = inr (strong_denial, tt, h)
-
 -- ---- one right for an operation
 
 -- no operation is permitted weakly and strongly

@@ -15,6 +15,7 @@ use hierarchy::order::Hierarchy;
 
 impl Book {
     /// The book of no record, with which a caller starts.
+    #[tactic(auto, using(crate::proofs::Accepting::nothing_accepted))]
     pub fn empty() -> Book
         ensures { result.records ≡ nothing }
     {

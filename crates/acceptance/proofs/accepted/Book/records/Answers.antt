@@ -1,17 +1,12 @@
-use Rattle.std.proofs.Common.{refl}
 use Rattle.acceptance.proofs.Truncated.{declared_of, rules_of}
 use Rattle.acceptance.proofs.Extending.{kept}
 use Rattle.acceptance.proofs.accepted.Book.records.Goals as goal
 
-pub returns : goal.returns
-returns c =
+pub returns-clause-rules : goal.returns-clause-rules
+returns-clause-rules c = rules_of c.args.self.now.records c.args.self.now.accepted
+
+pub returns-clause-kept : goal.returns-clause-kept
+returns-clause-kept c =
     let all = c.args.self.now.records in
     let t = c.args.self.now.accepted in
-    let declared = declared_of all t in
-    let rules = rules_of all t in
-    record {
-      records = refl;
-      declared = declared;
-      rules = rules;
-      kept = kept all declared rules;
-    }
+    kept all (declared_of all t) (rules_of all t)

@@ -1,36 +1,30 @@
 use Rattle.std.proofs.lemmas.Bool.Decides.{not_from_Decides}
-use Rattle.records.specs.declared.View.{View}
-use Rattle.views.specs.ViewRules.{RequirementsFollow, RightsFollow}
-use Rattle.acceptance.specs.Rules.{TypeFollows, RestrictionFollows}
-use Rattle.acceptance.proofs.Firsts.{checked_next, checked_broken, checked_last, of_named}
+use Rattle.acceptance.proofs.Firsts.{checked_next, checked_broken, checked_last}
+use Rattle.acceptance.proofs.Based.{on_named}
 use Rattle.acceptance.proofs.orders.Orders.check_base.Goals as goal
 
 pub returns-in_err-require : goal.returns-in_err-require
 returns-in_err-require g c =
-    let all = c.args.self.now.records.now in
-    let v = c.args.view.now in
-    checked_broken _ _ _ _ c.from_residual.ensures.1 (not_from_Decides _ (of_named (λ (w : View). TypeFollows all v w) c.requires.named c.view-base.ensures _ c.type_follows.ensures) c.in_err-require.ensures.0, c.in_err-require.ensures.1)
+    on_named c.args.self.now.records.now c.args.view.now _ c.args.number _ c.requires.named c.view-base.ensures
+    (checked_broken _ _ _ _ c.from_residual.ensures.1 (not_from_Decides _ c.type_follows.ensures c.in_err-require.ensures.0, c.in_err-require.ensures.1))
 
 pub returns-in_err-require-2 : goal.returns-in_err-require-2
 returns-in_err-require-2 g c =
-    let all = c.args.self.now.records.now in
-    let v = c.args.view.now in
-    checked_next _ _ _ ((of_named (λ (w : View). TypeFollows all v w) c.requires.named c.view-base.ensures _ c.type_follows.ensures).0 c.in_ok-require.ensures)
-    (checked_broken _ _ _ _ c.from_residual-in_err-require-2.ensures.1 (not_from_Decides _ (of_named (λ (w : View). RestrictionFollows all v w) c.requires.named c.view-base.ensures _ c.restriction_follows.ensures) c.in_err-require-2.ensures.0, c.in_err-require-2.ensures.1))
+    on_named c.args.self.now.records.now c.args.view.now _ c.args.number _ c.requires.named c.view-base.ensures
+    (checked_next _ _ _ (c.type_follows.ensures.0 c.in_ok-require.ensures)
+    (checked_broken _ _ _ _ c.from_residual-in_err-require-2.ensures.1 (not_from_Decides _ c.restriction_follows.ensures c.in_err-require-2.ensures.0, c.in_err-require-2.ensures.1)))
 
 pub returns-in_err-require-3 : goal.returns-in_err-require-3
 returns-in_err-require-3 g c =
-    let all = c.args.self.now.records.now in
-    let v = c.args.view.now in
-    checked_next _ _ _ ((of_named (λ (w : View). TypeFollows all v w) c.requires.named c.view-base.ensures _ c.type_follows.ensures).0 c.in_ok-require.ensures)
-    (checked_next _ _ _ ((of_named (λ (w : View). RestrictionFollows all v w) c.requires.named c.view-base.ensures _ c.restriction_follows.ensures).0 c.in_ok-require-2.ensures)
-    (checked_broken _ _ _ _ c.from_residual-in_err-require-3.ensures.1 (not_from_Decides _ (of_named (λ (w : View). RequirementsFollow v w) c.requires.named c.view-base.ensures _ c.requirements_follow.ensures) c.in_err-require-3.ensures.0, c.in_err-require-3.ensures.1)))
+    on_named c.args.self.now.records.now c.args.view.now _ c.args.number _ c.requires.named c.view-base.ensures
+    (checked_next _ _ _ (c.type_follows.ensures.0 c.in_ok-require.ensures)
+    (checked_next _ _ _ (c.restriction_follows.ensures.0 c.in_ok-require-2.ensures)
+    (checked_broken _ _ _ _ c.from_residual-in_err-require-3.ensures.1 (not_from_Decides _ c.requirements_follow.ensures c.in_err-require-3.ensures.0, c.in_err-require-3.ensures.1))))
 
 pub returns : goal.returns
 returns g c =
-    let all = c.args.self.now.records.now in
-    let v = c.args.view.now in
-    checked_next _ _ _ ((of_named (λ (w : View). TypeFollows all v w) c.requires.named c.view-base.ensures _ c.type_follows.ensures).0 c.in_ok-require.ensures)
-    (checked_next _ _ _ ((of_named (λ (w : View). RestrictionFollows all v w) c.requires.named c.view-base.ensures _ c.restriction_follows.ensures).0 c.in_ok-require-2.ensures)
-    (checked_next _ _ _ ((of_named (λ (w : View). RequirementsFollow v w) c.requires.named c.view-base.ensures _ c.requirements_follow.ensures).0 c.in_ok-require-3.ensures)
-    (checked_last _ _ _ (of_named (λ (w : View). RightsFollow v w) c.requires.named c.view-base.ensures _ c.rights_follow.ensures) c.require-4.ensures)))
+    on_named c.args.self.now.records.now c.args.view.now _ c.args.number _ c.requires.named c.view-base.ensures
+    (checked_next _ _ _ (c.type_follows.ensures.0 c.in_ok-require.ensures)
+    (checked_next _ _ _ (c.restriction_follows.ensures.0 c.in_ok-require-2.ensures)
+    (checked_next _ _ _ (c.requirements_follow.ensures.0 c.in_ok-require-3.ensures)
+    (checked_last _ _ _ c.rights_follow.ensures c.require-4.ensures))))

@@ -1,4 +1,4 @@
-use Rattle.std.proofs.Common.{Some, ap, ◌∙◌}
+use Rattle.std.proofs.Common.{◌≡◌, Some, subst}
 use Rattle.records.specs.declared.View.{View}
 use Rattle.acceptance.specs.declared.rejection.Rule.TheVariants.{Clashing}
 use Rattle.acceptance.specs.Rejections.{breach}
@@ -12,7 +12,7 @@ returns-in-Some g c =
     let all = c.args.self.now.records.now in
     let i = c.in-Some.first in
     let j = c.in-Some.second in
-    pairs_fail all i j c.of_rule.result (c.of_rule.ensures ∙ ap (λ (v : View). breach Clashing v (Some j)) c.view.ensures) c.in-Some.ensures
+    pairs_fail all i j c.of_rule.result (subst (λ (v : View). c.of_rule.result ≡ breach Clashing v (Some j)) c.view.ensures c.of_rule.ensures) c.in-Some.ensures
 
 pub returns-in-None : goal.returns-in-None
 unfolding Checked
