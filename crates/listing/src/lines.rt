@@ -95,6 +95,7 @@ impl fmt::Display for Operations<'_> {
             (view.weak.denied, "weakly denied"),
             (view.strong.denied, "strongly denied"),
         ];
+        // Four sets are gone through side by side, so a range is plainer than their iterators.
         for operation in 0..64usize {
             for (set, right) in rights {
                 if set.contains(operation) {

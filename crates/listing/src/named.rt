@@ -13,10 +13,8 @@ impl fmt::Display for Named<'_> {
             return Ok(());
         }
         write!(f, "; {name}")?;
-        for number in 0..64usize {
-            if set.contains(number) {
-                write!(f, " {number}")?;
-            }
+        for number in (0..64usize).filter(|number| set.contains(*number)) {
+            write!(f, " {number}")?;
         }
         Ok(())
     }
