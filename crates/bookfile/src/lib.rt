@@ -17,7 +17,6 @@ pub fn book_bytes<'b>(rt: &HostRuntime, buffer: &'b mut [u8]) -> &'b [u8]
     let Ok(mut file) = File::open(rt, "book") else {
         return &[];
     };
-    // A project rule keeps this in fixed memory, and the library fills a slice only whole or by one read.
     let mut len = 0;
     // Std has no call that fills a slice as far as a file goes, so no other form is plainer than this loop.
     while len < buffer.len() {
