@@ -9,6 +9,8 @@ use hierarchy::collecting::collect;
 use hierarchy::order::Hierarchy;
 use sets::NumberSet;
 
+// One function for types and groups is no plainer: `collect` is the generic one, and these say what it gives in a book's words.
+// Nor is a struct of records and order, which could be made of falling records alone and so would ask more of callers.
 /// The operations of a type, under the order of the records' types.
 pub fn type_operations<H: Hierarchy>(records: &Records, types: &H, number: usize) -> NumberSet
     ensures { Means (H.Hierarchy.pairs types.now) (type_links records.now) → (o : ℕ) → Iff (In o result) (OperationOf records.now number o) }

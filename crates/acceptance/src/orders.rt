@@ -49,6 +49,7 @@ impl<'r, H: Hierarchy> Orders<'r, H> {
         }
     }
 
+    // The bound stands at each number: a type for declared numbers is no plainer, since it would carry the records along.
     /// The view of a number that is declared.
     pub(crate) fn view(&self, number: usize) -> &View
         requires { number < length self.now.records.now.views }
@@ -57,6 +58,7 @@ impl<'r, H: Hierarchy> Orders<'r, H> {
         &self.records.views.as_slice()[number]
     }
 
+    // One function for types and views is no plainer: it would need a parameter that says which order is asked.
     /// Whether a type lies at or below another.
     pub(crate) fn type_is_below(&self, number: usize, other: usize) -> bool
         ensures { Iff (result ≡ true) (Below (type_links self.now.records.now) number other) }

@@ -1,5 +1,5 @@
 //! The fields of a record, taken one after the other.
-ghost use Rattle.std.specs.Prelude.{◌≡◌, ◌/◌, ◌≤◌, length, take, drop, if◌then◌else◌, slice_index};
+ghost use Rattle.std.specs.Prelude.{◌≡◌, ◌≤◌, true, false, MatchOption, length, take, drop, if◌then◌else◌, slice_index};
 ghost use Rattle.sets.specs.Bytes.{set_of};
 ghost use Rattle.book.specs.Form.{marked, piece, wrong_next, wrong_names, wrong_operations, wrong_controlled, wrong_modifiers, wrong_denials};
 ghost use Rattle.book.specs.Reading.{Told, Moved};
@@ -16,43 +16,20 @@ pub(crate) struct Fields<'a> {
 }
 
 impl<'a> Fields<'a> {
-    // Whether the next field is present; the map moves on.
-    fn present(&mut self) -> bool
-        ensures told { result ≡ marked self.old.map }
-        ensures map { self.new.map ≡ self.old.map / 2 }
-        ensures rest { self.new.rest.now ≡ self.old.rest.now }
+    // The bytes of the next field, where it is present.
+    fn next<const N: usize>(&mut self) -> Option<&'a [u8; N]>
+        requires { (if marked self.old.map then N else 0) ≤ length self.old.rest.now }
+        ensures moved { Moved N self.old.map self.old.rest.now self.new.map self.new.rest.now }
+        ensures bytes { MatchOption result (marked self.old.map ≡ false) (λ bytes. (marked self.old.map ≡ true) × (bytes.now ≡ take N self.old.rest.now)) }
     {
         let there = self.map % 2 == 1;
         self.map /= 2;
-        there
-    }
-
-    // The next byte.
-    fn byte(&mut self) -> u8
-        requires { 1 ≤ length self.old.rest.now }
-        ensures value { result ≡ slice_index (take 1 self.old.rest.now) 0 }
-        ensures map { self.new.map ≡ self.old.map }
-        ensures rest { self.new.rest.now ≡ drop 1 self.old.rest.now }
-    {
-        let Some((byte, rest)) = self.rest.split_first() else {
-            unreachable!()
-        };
+        if !there {
+            return None;
+        }
+        let (bytes, rest) = self.rest.split_first_chunk()?;
         self.rest = rest;
-        *byte
-    }
-
-    // The next eight bytes, as a set.
-    fn eight(&mut self) -> NumberSet
-        requires { 8 ≤ length self.old.rest.now }
-        ensures value { result ≡ set_of (take 8 self.old.rest.now) }
-        ensures map { self.new.map ≡ self.old.map }
-        ensures rest { self.new.rest.now ≡ drop 8 self.old.rest.now }
-    {
-        let Some((bytes, rest)) = self.rest.split_first_chunk() else {
-            unreachable!()
-        };
-        self.rest = rest;
-        NumberSet::from(*bytes)
+        Some(bytes)
     }
 
     /// The next set, none where it is absent; refused where it is present and empty.
@@ -61,10 +38,10 @@ impl<'a> Fields<'a> {
         ensures moved { Moved 8 self.old.map self.old.rest.now self.new.map self.new.rest.now }
         ensures told { Told result (wrong_next wrong_operations 8 self.old.map self.old.rest.now) (set_of (piece 8 self.old.map self.old.rest.now)) }
     {
-        if !self.present() {
+        let Some(bytes) = self.next() else {
             return Ok(NumberSet::empty());
-        }
-        let set = self.eight();
+        };
+        let set = NumberSet::from(*bytes);
         if set.is_empty() {
             return Err(Refusal::Empty);
         }
@@ -90,14 +67,13 @@ impl<'a> Fields<'a> {
         ensures moved { Moved 1 self.old.map self.old.rest.now self.new.map self.new.rest.now }
         ensures told { Told result (wrong_next (wrong_controlled declared) 1 self.old.map self.old.rest.now) (slice_index (piece 1 self.old.map self.old.rest.now) 0) }
     {
-        if !self.present() {
+        let Some([number]) = self.next::<1>() else {
             return Ok(0);
-        }
-        let number = self.byte();
-        if number as usize >= declared {
+        };
+        if *number as usize >= declared {
             return Err(Refusal::Undeclared);
         }
-        Ok(number)
+        Ok(*number)
     }
 
     /// The modifiers of a view, 0 where they are absent.
@@ -106,17 +82,12 @@ impl<'a> Fields<'a> {
         ensures moved { Moved 1 self.old.map self.old.rest.now self.new.map self.new.rest.now }
         ensures told { Told result (wrong_next wrong_modifiers 1 self.old.map self.old.rest.now) (slice_index (piece 1 self.old.map self.old.rest.now) 0) }
     {
-        if !self.present() {
-            return Ok(0);
+        match self.next::<1>() {
+            None => Ok(0),
+            Some([0]) => Err(Refusal::Empty),
+            Some([sum]) if *sum > 7 => Err(Refusal::Undeclared),
+            Some([sum]) => Ok(*sum),
         }
-        let sum = self.byte();
-        if sum == 0 {
-            return Err(Refusal::Empty);
-        }
-        if sum > 7 {
-            return Err(Refusal::Undeclared);
-        }
-        Ok(sum)
     }
 
     /// The operations denied weakly and those denied strongly; refused where they are present and both are empty.
@@ -125,11 +96,14 @@ impl<'a> Fields<'a> {
         ensures moved { Moved 16 self.old.map self.old.rest.now self.new.map self.new.rest.now }
         ensures told { Told result (wrong_next wrong_denials 16 self.old.map self.old.rest.now) (set_of (take 8 (piece 16 self.old.map self.old.rest.now)), set_of (drop 8 (piece 16 self.old.map self.old.rest.now))) }
     {
-        if !self.present() {
+        let Some(bytes) = self.next::<16>() else {
             return Ok((NumberSet::empty(), NumberSet::empty()));
-        }
-        let weak = self.eight();
-        let strong = self.eight();
+        };
+        let (Some(weak), Some(strong)) = (bytes.first_chunk(), bytes.last_chunk()) else {
+            unreachable!()
+        };
+        let weak = NumberSet::from(*weak);
+        let strong = NumberSet::from(*strong);
         if weak.is_empty() && strong.is_empty() {
             return Err(Refusal::Empty);
         }

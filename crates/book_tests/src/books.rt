@@ -18,6 +18,7 @@ pub fn check_passes(book: &[u8]) -> Result<(), Fail> {
 }
 
 /// The byte 01, and then so many records with no field, of one kind.
+// The kind is a byte, so that a test can write a wrong one: an enum is no plainer here.
 pub fn plain_records(heap: Global, kind: u8, count: usize) -> Result<Vec<u8>, AllocError> {
     let mut bytes = vec![in heap; 1u8]?;
     for _ in 0..count {

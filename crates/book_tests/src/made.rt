@@ -2,6 +2,7 @@
 use std::alloc::{AllocError, Global};
 
 /// A view to be written, its sets as words of bits.
+// Numbers as a book has them, since bytes are what is tested: names are no plainer here.
 #[derive(Clone, Copy)]
 pub struct ViewFields {
     pub controlled: u8,

@@ -119,6 +119,7 @@ impl NumberSet {
         self.bits.count_ones() as usize
     }
 
+    // The derived `==` says that the words are equal, so it is no plainer: this says it of the members.
     /// Whether both sets have the same members.
     pub fn same(self, other: NumberSet) -> bool
         ensures { Iff (result ≡ true) ((k : ℕ) → Iff (In k self) (In k other)) }

@@ -77,7 +77,8 @@ impl<T: Copy, const N: usize> Table<T, N> {
 
     /// How many items there are.
     pub fn len(&self) -> usize
-        ensures { result ≡ length self.now }
+        ensures items { result ≡ length self.now }
+        ensures within { result ≤ N }
     {
         self.len
     }

@@ -14,6 +14,7 @@ pub fn rights(view: &View) -> NumberSet
     permissions(view).union(denials(view))
 }
 
+// One function with a mode for this and `denials` is no plainer: a call would name the mode in place of what it gets.
 /// The operations that the view permits.
 pub fn permissions(view: &View) -> NumberSet
     ensures { (o : ℕ) → Iff (In o result) (Has view.now weak_permission o ⊎ Has view.now strong_permission o) }

@@ -1,7 +1,7 @@
 use Rattle.std.proofs.Common.{◌≡◌, ℕ, ◌<◌, ◌^◌, ◌∙◌, List, ◌∷◌, rules, sym, ap, subst, arith}
 use Rattle.sets.specs.declared.NumberSet.{NumberSet}
 use Rattle.sets.specs.Members.{Bit, In, members}
-use Rattle.sets.proofs.Gathering.{Gathered, gathered_start, gathered_more, gathered_next, gathered_all}
+use Rattle.sets.proofs.Gathering.{Gathered, gathered_more, gathered_next, gathered_all}
 use Rattle.hierarchy.specs.Order.{Below, links_of}
 use Rattle.hierarchy.specs.declared.links.Links.{Links}
 use Rattle.hierarchy.specs.Linking.{linked}
@@ -13,9 +13,6 @@ use Rattle.hierarchy.proofs.rows.row.Goals as goal
 -- a number that comes next is directly above, and so lower
 lower : (l : Links) (n x : ℕ) (start s above all : NumberSet) (before rest : List ℕ) → s ≡ above → above ≡ links_of (linked l) n → before ≡ x ∷ rest → Gathered (Below (linked l)) start (members s) before all → x < n
 lower l n x start s above all before rest i a e g = (falling l).1 n x (subst (In x) (i ∙ a) (gathered_next (Below (linked l)) start s all before rest x e g))
-
-pub loop-lower-init : goal.loop-lower-init
-loop-lower-init c = gathered_start _ _ _
 
 pub offset_bounds-of-lower : goal.offset_bounds-of-lower
 offset_bounds-of-lower c =
