@@ -1,21 +1,8 @@
 use Rattle.std.proofs.Common.{◌+◌, ◌/◌, ◌^◌, length, sym, ap, ◌∙◌, subst, arith}
 use Rattle.std.proofs.lemmas.Bool.{eq-eqb, ne_eqb}
-use Rattle.book.specs.Layout.{layout}
-use Rattle.book.proofs.Spans.{Counted, span_of, counted_none, counted_more, counted_pass, counted_fits, counted_all, span_small, span_widths, unfit_past, unfit_first, fits}
+use Rattle.book.proofs.Spans.{Counted, counted_more, counted_pass, counted_all, unfit_past, unfit_first}
 use Rattle.book.proofs.layout.measure.Goals as goal
 use Rattle.book.proofs.layout.measure.Goals.{then-left-eq1, else-left-eq1, then-left-gt0-via-then-left-gt0, then-left-gt0-via-else-left-gt0+then-lacks_type}
-
-pub loop-width-init : goal.loop-width-init
-loop-width-init c = counted_none c.widths-fields.result.now c.args.map
-
-pub overflow_add-size : goal.overflow_add-size
-overflow_add-size c =
-    let ws = c.widths-fields.result.now in
-    let l = c.loop-width in
-    let h = counted_fits ws c.args.map l.width-index l.size l.left l.invariant c.loop-width-test.true (eq-eqb _ _ c.if-left-eq1.true) in
-    let e = ap (λ ws. span_of ws c.args.map) c.widths-fields.ensures in
-    let s = span_small c.args.phase c.args.map in
-    omega arith
 
 pub loop-width-preserved : goal.loop-width-preserved
 loop-width-preserved c =
@@ -39,13 +26,3 @@ returns-then-left-gt0 c =
       | then-left-gt0-via-then-left-gt0 w ↦ let h = w.if-left-gt0.true in unfit_past c.args.phase c.args.map (omega arith)
       | then-left-gt0-via-else-left-gt0+then-lacks_type w ↦ unfit_first c.args.phase c.args.map (sym w.lacks_type.ensures ∙ w.if-lacks_type.true)
     ]
-
-pub returns : goal.returns
-returns c =
-    let l = c.loop-width in
-    let all = counted_all c.widths-fields.result.now c.args.map l.width-index l.size l.left l.invariant c.loop-width-test.false in
-    let past = all.1 ∙ ap (λ ws. c.args.map / 2 ^ length ws) c.widths-fields.ensures in
-    let none = c.if-left-gt0.false in (
-      fits c.args.phase c.args.map (omega arith) (sym c.lacks_type.ensures ∙ c.if-lacks_type.false),
-      all.0 ∙ ap (λ ws. span_of ws c.args.map) c.widths-fields.ensures ∙ span_widths (layout c.args.phase) c.args.map,
-    )
