@@ -1,8 +1,9 @@
 -- Tests that tell whether something holds.
-use Rattle.std.proofs.Common.{◌≡◌, ℕ, zero, suc, ◌<◌, Bool, true, false, not, ◌&&◌, ◌||◌, eqb, ltb, ◌⊎◌, sym, refl, subst, inl, inr, ⊎_elim, arith}
+use Rattle.std.proofs.Common.{◌≡◌, ℕ, zero, suc, ◌<◌, Bool, true, false, not, ◌&&◌, ◌||◌, eqb, ltb, ◌⊎◌, refl, inl, inr, ⊎_elim}
 use mathlib.Core.Bool.{Bool-set}
-use mathlib.Core.Logic.{∥∥₁_elim, ∥∥₁_map, ∥∥₁_prop}
-use Rattle.std.proofs.lemmas.Bool.{cases_eq, false≢true, eqb-true, eq-eqb, ltb-true, lt-ltb}
+use mathlib.Core.Logic.{∥∥₁_elim}
+use Rattle.std.proofs.lemmas.Bool.{false≢true, eqb-true, eq-eqb, ltb-true, lt-ltb}
+use Rattle.std.proofs.lemmas.Bool.Decides.{Decides-below_and, Decides-below_or}
 use Rattle.sets.specs.Members.{Iff}
 use Rattle.views.specs.Some.{Exists}
 
@@ -41,29 +42,22 @@ tells_less a b = record { sound = ltb-true a b; complete = lt-ltb a b }
 -- the test passes at each number below n
 abbrev pub every_below : ℕ → (ℕ → Bool) → Bool
 every_below zero f = true
-every_below (suc n) f = every_below n f && f n
+every_below (suc n) f = f n && every_below n f
 
 pub tells_every : (n : ℕ) (f : ℕ → Bool) (P : ℕ → Type 0) → ((k : ℕ) → Tells (f k) (P k)) → Tells (every_below n f) ((k : ℕ) → k < n → P k)
-tells_every zero f P t = record { sound = λ e k l. absurd (omega arith); complete = λ h. refl }
-tells_every (suc n) f P t =
-    tells_also (
-      λ p k l. ⊎_elim (λ e. subst P (sym e) p.1) (λ e. p.0 k (omega (arith, e))) (cases_eq k n),
-      λ h. (λ k l. h k (omega arith), h n (omega arith)),
-    )
-    (tells_and (tells_every n f P t) (t n))
+tells_every n f P t =
+    let d = Decides-below_and f P (λ n. every_below n f) (λ k. ((t k).sound, (t k).complete)) refl (λ _. refl) n in
+    record { sound = d.0; complete = d.1 }
 
 -- the test passes at some number below n
 abbrev pub some_below : ℕ → (ℕ → Bool) → Bool
 some_below zero f = false
-some_below (suc n) f = some_below n f || f n
+some_below (suc n) f = f n || some_below n f
 
 pub tells_some : (n : ℕ) (f : ℕ → Bool) (P : ℕ → Type 0) → ((k : ℕ) → Tells (f k) (P k)) → Tells (some_below n f) (Exists (λ k. (k < n) × P k))
-tells_some zero f P t = record { sound = λ e. absurd (false≢true e); complete = λ p. ∥∥₁_elim p (Bool-set _ _) (λ s. let l = s.1.0 in absurd (omega arith)) }
-tells_some (suc n) f P t =
-    tells_also (
-      λ p. ∥∥₁_elim p ∥∥₁_prop (⊎_elim (λ q. ∥∥₁_map q (λ s. (s.0, (omega (arith, s.1.0), s.1.1)))) (λ q. ∣ (n, (omega arith, q)) ∣₁)),
-      λ p.
-          ∥∥₁_map p
-          (λ s. ⊎_elim (λ e. inr (subst P e s.1.1)) (λ e. inl ∣ (s.0, (omega (arith, e, s.1.0), s.1.1)) ∣₁) (cases_eq s.0 n)),
-    )
-    (tells_or (tells_some n f P t) (t n))
+tells_some n f P t =
+    let d = Decides-below_or f P (λ n. some_below n f) (λ k. ((t k).sound, (t k).complete)) refl (λ _. refl) n in
+    record {
+      sound = λ e. let s = d.0 e in ∣ (s.0, (s.1, s.2)) ∣₁;
+      complete = λ p. ∥∥₁_elim p (Bool-set _ _) (λ s. d.1 (s.0, s.1.0, s.1.1));
+    }
