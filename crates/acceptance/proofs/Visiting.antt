@@ -6,6 +6,7 @@ use Rattle.std.proofs.lemmas.List.Elements.{Contains-append_right, Contains-appe
 use Rattle.sets.specs.declared.NumberSet.{NumberSet}
 use Rattle.sets.specs.Members.{In, has, members}
 use Rattle.sets.proofs.Rising.{member_of}
+use Rattle.sets.proofs.Gathering.{lone, no_item}
 
 -- no number before the first that passes does
 before_first : (p : ℕ → Bool) (a n x : ℕ) (rest : List ℕ) → filter p (range_with_len a n) ≡ x ∷ rest → (k : ℕ) → a ≤ k → k < x → p k ≡ false
@@ -19,13 +20,6 @@ before_first p a (suc n) x rest e k l m =
 lower_out : (s : NumberSet) (x : ℕ) (rest : List ℕ) → members s ≡ x ∷ rest → (k : ℕ) → k < x → In k s → ⊥
 unfolding members
 lower_out s x rest e k l h = both_ways (has s k) (before_first (has s) 0 64 x rest e k (omega arith) l) (eq-eqb _ _ h)
-
-lone : (x k : ℕ) → Contains (x ∷ []) k → k ≡ x
-lone x k (zero, l, e) = sym e
-lone x k (suc i, l, e) = absurd (omega (arith, l))
-
-no_item : (k : ℕ) → Contains [] k → ⊥
-no_item k (i, l, e) = absurd (omega (arith, l))
 
 module _ (P : ℕ → Type 0) (over : List ℕ) where
   -- what is to come is of the list, and all else has the property

@@ -8,11 +8,12 @@ use Rattle.sets.specs.declared.NumberSet.{NumberSet}
 use Rattle.sets.specs.Members.{In, Iff, members}
 use Rattle.sets.proofs.Rising.{member_of, members_has}
 
-lone : (x c : ℕ) → Contains (x ∷ []) c → c ≡ x
+-- a list of one has that one alone
+pub lone : (x c : ℕ) → Contains (x ∷ []) c → c ≡ x
 lone x c (zero, l, e) = sym e
 lone x c (suc k, l, e) = absurd (omega (arith, l))
 
-no_item : (c : ℕ) → Contains [] c → ⊥
+pub no_item : (c : ℕ) → Contains [] c → ⊥
 no_item c (k, l, e) = absurd (omega (arith, l))
 
 module _ (R : ℕ → ℕ → Type 0) (start : NumberSet) (over : List ℕ) where
