@@ -74,13 +74,14 @@ impl Records {
         requires { count (phase_of made) self.old < limit (phase_of made) }
         ensures { self.new ≡ filed self.old made }
     {
-        // There is room, so none of them is refused.
-        let _ = match made {
+        // A match on the kind is the plainest here too: the tables have types of their own.
+        let filed = match made {
             Record::AType(record) => self.types.push(record),
             Record::ARole(record) => self.roles.push(record),
             Record::AGroup(record) => self.groups.push(record),
             Record::AView(record) => self.views.push(record),
             Record::ASubject(record) => self.subjects.push(record),
         };
+        filed.unwrap();
     }
 }

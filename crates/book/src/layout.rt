@@ -5,6 +5,8 @@ ghost use Rattle.book.specs.Form.{marked, span, unfit};
 
 use crate::phase::Phase;
 
+// The matches on a kind are the format's table itself, so closures or a table of functions would be no plainer.
+
 // How many bytes each field of a record takes, from bit 0 of its map upwards.
 fn widths(phase: Phase) -> &'static [u8]
     ensures { result.now ≡ map width (layout phase) }

@@ -21,9 +21,6 @@ pub fn check_passes(book: &[u8]) -> Result<(), Fail> {
 // The kind is a byte, so that a test can write a wrong one: an enum is no plainer here.
 pub fn plain_records(heap: Global, kind: u8, count: usize) -> Result<Vec<u8>, AllocError> {
     let mut bytes = vec![in heap; 1u8]?;
-    for _ in 0..count {
-        bytes.push(kind)?;
-        bytes.push(0)?;
-    }
+    bytes.extend_from_slice(&[kind, 0].repeat(heap, count)?)?;
     Ok(bytes)
 }
