@@ -10,6 +10,7 @@ use crate::rows::{Rows, build};
 use sets::NumberSet;
 
 /// The rows of the declared numbers.
+// A project rule asks for the rows as an array, so how many are declared stands beside it.
 #[derive(Clone, Copy)]
 pub struct Kept {
     rows: Rows,

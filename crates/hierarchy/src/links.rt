@@ -6,6 +6,7 @@ ghost use Rattle.sets.specs.declared.NumberSet.{NumberSet};
 
 use sets::NumberSet;
 
+// The methods stand in a file of their own, since a type with ghost fields imports all that its file imports.
 pub mod methods;
 
 /// A record that lies directly below others of its kind.

@@ -22,7 +22,8 @@ fn row(links: &Links, of: &[u64; 64], number: usize) -> NumberSet
 {
     let mut row = NumberSet::empty();
     row.insert(number);
-    for lower in links.above(number).iter() {
+    // A closure that is asked for each member is no plainer: its index would have to be known to the set.
+    for lower in links.above(number) {
         row = row.union(NumberSet::from(of[lower]));
     }
     row

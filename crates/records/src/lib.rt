@@ -44,7 +44,7 @@ pub struct View {
     pub bases: NumberSet,
     pub required: NumberSet,
     pub restriction: NumberSet,
-    // The byte of the book: three flags are no plainer, since the encoding would have to make that byte of them again.
+    // A byte, as in the book: a type of its own is no plainer, since the encoding makes that byte of it again.
     pub modifiers: u8,
     pub weak: Rights,
     pub strong: Rights,

@@ -7,7 +7,7 @@ use crate::View;
 use sets::NumberSet;
 use std::fmt;
 
-/// What a view may be.
+/// What a view may be, in the order of the bits that stand for it.
 #[derive(Clone, Copy, PartialEq, Eq, Debug)]
 pub enum Modifier {
     /// A holder may pass it on.
@@ -19,28 +19,17 @@ pub enum Modifier {
 }
 
 impl Modifier {
-    /// All of them, in the order of their bits.
+    /// All of them.
     pub const ALL: [Modifier; 3] = [Modifier::Assignable, Modifier::Virtual, Modifier::Static];
-
-    // The bit of the modifiers' byte that stands for it.
-    fn bit(self) -> usize
-        ensures { result ≡ bit_of self }
-    {
-        match self {
-            Modifier::Assignable => 0,
-            Modifier::Virtual => 1,
-            Modifier::Static => 2,
-        }
-    }
 }
 
 impl fmt::Display for Modifier {
     fn fmt<W: fmt::Write>(&self, f: &mut fmt::Formatter<W>) -> fmt::Result {
-        match self {
-            Modifier::Assignable => write!(f, "assignable"),
-            Modifier::Virtual => write!(f, "virtual"),
-            Modifier::Static => write!(f, "static"),
-        }
+        f.write_str(match self {
+            Modifier::Assignable => "assignable",
+            Modifier::Virtual => "virtual",
+            Modifier::Static => "static",
+        })
     }
 }
 
@@ -49,6 +38,6 @@ impl View {
     pub fn is(&self, modifier: Modifier) -> bool
         ensures { Iff (result ≡ true) (Bit (bit_of modifier) self.now.modifiers) }
     {
-        NumberSet::from(u64::from(self.modifiers)).contains(modifier.bit())
+        NumberSet::from(u64::from(self.modifiers)).contains(modifier as usize)
     }
 }

@@ -1,4 +1,5 @@
 //! The members of a set, one after the other.
+ghost use Rattle.std.specs.Prelude.{◌≡◌};
 ghost use Rattle.std.specs.Iterator.{YieldsFirst, item_count};
 ghost use Rattle.sets.specs.Members.{members};
 
@@ -8,6 +9,18 @@ use crate::NumberSet;
 #[derive(Clone, Copy, Debug)]
 pub struct Members {
     pub(crate) left: NumberSet,
+}
+
+impl IntoIterator for NumberSet {
+    type Item = usize;
+
+    type IntoIter = Members;
+
+    ghost into_iter_gives = { λ set members. members.left ≡ set };
+
+    fn into_iter(self) -> Members {
+        self.iter()
+    }
 }
 
 impl Iterator for Members {

@@ -38,10 +38,9 @@ impl Links {
     pub fn above(&self, number: usize) -> NumberSet
         ensures { result ≡ links_of (linked self.now) number }
     {
-        if number < self.len {
-            self.rows[number]
-        } else {
-            NumberSet::empty()
-        }
+        self.rows[..self.len]
+            .get(number)
+            .copied()
+            .unwrap_or(NumberSet::empty())
     }
 }

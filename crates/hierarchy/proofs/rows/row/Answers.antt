@@ -1,4 +1,4 @@
-use Rattle.std.proofs.Common.{◌≡◌, ℕ, ◌<◌, ◌^◌, ◌∙◌, List, ◌∷◌, rules, sym, ap, subst, arith}
+use Rattle.std.proofs.Common.{◌≡◌, ℕ, ◌<◌, ◌^◌, ◌∙◌, List, ◌∷◌, rules, sym, subst, arith}
 use Rattle.sets.specs.declared.NumberSet.{NumberSet}
 use Rattle.sets.specs.Members.{Bit, In, members}
 use Rattle.sets.proofs.Gathering.{Gathered, gathered_more, gathered_next, gathered_all}
@@ -18,23 +18,20 @@ pub offset_bounds-of-lower : goal.offset_bounds-of-lower
 offset_bounds-of-lower c =
     let p = c.requires.0 in
     let n = (falling c.args.links.now).0 in
-    let i = ap (λ m. m.left) c.into_iter-lower-iterator.ensures.into_iter_gives ∙ c.iter-lower-items.ensures in
-    let l = lower c.args.links.now c.args.number c.in-Some.lower _ _ _ _ _ _ i c.above.ensures c.in-Some.ensures.steps c.loop-lower.invariant in
+    let l = lower c.args.links.now c.args.number c.in-Some.lower _ _ _ _ _ _ c.into_iter-lower-iterator.ensures.into_iter_gives c.above-lower-items.ensures c.in-Some.ensures.steps c.loop-lower.invariant in
     search (rules, arith)
 
 pub bounds-of-lower : goal.bounds-of-lower
 bounds-of-lower c =
     let p = c.requires.0 in
     let n = (falling c.args.links.now).0 in
-    let i = ap (λ m. m.left) c.into_iter-lower-iterator.ensures.into_iter_gives ∙ c.iter-lower-items.ensures in
-    let l = lower c.args.links.now c.args.number c.in-Some.lower _ _ _ _ _ _ i c.above.ensures c.in-Some.ensures.steps c.loop-lower.invariant in
+    let l = lower c.args.links.now c.args.number c.in-Some.lower _ _ _ _ _ _ c.into_iter-lower-iterator.ensures.into_iter_gives c.above-lower-items.ensures c.in-Some.ensures.steps c.loop-lower.invariant in
     omega arith
 
 pub loop-lower-preserved : goal.loop-lower-preserved
 loop-lower-preserved c =
     let b = c.in-Some.lower in
-    let i = ap (λ m. m.left) c.into_iter-lower-iterator.ensures.into_iter_gives ∙ c.iter-lower-items.ensures in
-    let told = λ (k : ℕ). c.requires.1 b k (lower c.args.links.now c.args.number b _ _ _ _ _ _ i c.above.ensures c.in-Some.ensures.steps c.loop-lower.invariant) in
+    let told = λ (k : ℕ). c.requires.1 b k (lower c.args.links.now c.args.number b _ _ _ _ _ _ c.into_iter-lower-iterator.ensures.into_iter_gives c.above-lower-items.ensures c.in-Some.ensures.steps c.loop-lower.invariant) in
     let f = c.from.ensures in
     gathered_more (Below (linked c.args.links.now)) _ _ _ _ b _ _ c.from.result c.in-Some.ensures.steps c.loop-lower.invariant
     (λ k. (λ h. (told k).0 (subst (Bit k) f h), λ h. subst (Bit k) (sym f) ((told k).1 h)))
@@ -46,8 +43,8 @@ returns c =
     let n = c.args.number in
     let p = c.requires.0 in
     let l = (falling c.args.links.now).0 in
-    let i : c.into_iter-lower-iterator.result.left ≡ c.above.result = ap (λ m. m.left) c.into_iter-lower-iterator.ensures.into_iter_gives ∙ c.iter-lower-items.ensures in
+    let i = c.into_iter-lower-iterator.ensures.into_iter_gives in
     let w = subst (λ (s : NumberSet). s.bits < 2 ^ 64) (sym i) (omega arith) in
     row_done links n c.insert.new.self c.into_iter-lower-iterator.result.left c.loop-lower.row p (only c.empty-row.result c.insert.new.self n (omega arith) c.empty-row.ensures.members c.insert.ensures)
-    (i ∙ c.above.ensures)
+    (i ∙ c.above-lower-items.ensures)
     (gathered_all (Below links) c.insert.new.self _ _ _ w c.in-None.ensures.steps.0 c.loop-lower.invariant)
