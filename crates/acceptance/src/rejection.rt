@@ -5,28 +5,37 @@ ghost use Rattle.acceptance.specs.declared.rejection.Reason.TheVariants.{OfForm,
 
 use book::refusal::{Fault, Refusal};
 use records::View;
-use std::fmt;
+use thiserror::Error;
 
 /// A rule that the records of a book have to keep. Each has the number that users see.
-#[derive(Clone, Copy, PartialEq, Eq, Debug)]
+#[derive(Clone, Copy, PartialEq, Eq, Debug, Error)]
 pub enum Rule {
     /// An operation has two rights in the view.
+    #[error("an operation has two rights")]
     TwoRights = 11,
     /// A right is for an operation that the controlled type does not have.
+    #[error("a right is for an operation that the controlled type does not have")]
     ForeignOperation = 12,
     /// The view is assignable and denies something.
+    #[error("the view is assignable and has a denial")]
     AssignableDenial = 13,
     /// The view is virtual and has a right.
+    #[error("the view is virtual and has a right")]
     VirtualRight = 14,
     /// The controlled type is not at or below that of the base.
+    #[error("the controlled type is not at or below that of the base")]
     ControlledType = 15,
     /// The base is restricted, and the view is not, or to a role that is not at or below one of the base's.
+    #[error("the base is restricted, and the view is not, or names a role that is at or below none of the base's")]
     RoleRestriction = 16,
     /// The view lacks a required view of the base, or its static.
+    #[error("a required view of the base is missing, or the base is static and the view is not")]
     Requirement = 17,
     /// A right of the base is missing or changed in a way that is not allowed, or a new right denies.
+    #[error("a right of the base is missing or changed in a way that is not allowed, or a new right denies")]
     Redefinition = 18,
     /// Two views that are not related hold strong rights of opposite mode for one operation.
+    #[error("one strongly permits an operation that the other strongly denies, and a type lies at or below both controlled types")]
     Clashing = 19,
 }
 
@@ -39,32 +48,12 @@ impl From<Rule> for u8 {
     }
 }
 
-/// How the rule is broken.
-impl fmt::Display for Rule {
-    fn fmt<W: fmt::Write>(&self, f: &mut fmt::Formatter<W>) -> fmt::Result {
-        f.write_str(match self {
-            Rule::TwoRights => "an operation has two rights",
-            Rule::ForeignOperation =>
-                "a right is for an operation that the controlled type does not have",
-            Rule::AssignableDenial => "the view is assignable and has a denial",
-            Rule::VirtualRight => "the view is virtual and has a right",
-            Rule::ControlledType => "the controlled type is not at or below that of the base",
-            Rule::RoleRestriction =>
-                "the base is restricted, and the view is not, or names a role that is at or below none of the base's",
-            Rule::Requirement =>
-                "a required view of the base is missing, or the base is static and the view is not",
-            Rule::Redefinition =>
-                "a right of the base is missing or changed in a way that is not allowed, or a new right denies",
-            Rule::Clashing =>
-                "one strongly permits an operation that the other strongly denies, and a type lies at or below both controlled types",
-        })
-    }
-}
-
 /// Why a book is rejected: its form, or a rule.
-#[derive(Clone, Copy, PartialEq, Eq, Debug)]
+#[derive(Clone, Copy, PartialEq, Eq, Debug, Error)]
 pub enum Reason {
+    #[error("{0}")]
     OfForm(Refusal),
+    #[error("{0}")]
     OfRule(Rule),
 }
 
@@ -97,7 +86,8 @@ impl From<Reason> for u8 {
 }
 
 /// A rejection: why, the place of the record in the book, and for two views the other one's number.
-#[derive(Clone, Copy, PartialEq, Eq, Debug)]
+#[derive(Clone, Copy, PartialEq, Eq, Debug, Error)]
+#[error("refused {} at {place}: {reason}", u8::from(*reason))]
 pub struct Rejection {
     pub reason: Reason,
     pub place: usize,

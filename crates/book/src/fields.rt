@@ -70,7 +70,7 @@ impl<'a> Fields<'a> {
         let Some([number]) = self.next::<1>() else {
             return Ok(0);
         };
-        if *number as usize >= declared {
+        if usize::from(*number) >= declared {
             return Err(Refusal::Undeclared);
         }
         Ok(*number)

@@ -34,10 +34,7 @@ pub(crate) fn most(phase: Phase) -> usize
 fn lacks_type(phase: Phase, map: u8) -> bool
     ensures { result ≡ (needs_first phase && not (marked map)) }
 {
-    match phase {
-        Phase::Views => map % 2 != 1,
-        Phase::Types | Phase::Roles | Phase::Groups | Phase::Subjects => false,
-    }
+    phase == Phase::Views && map % 2 != 1
 }
 
 /// How many bytes the fields take that the map names; none where the map does not fit the kind.
@@ -45,11 +42,12 @@ pub(crate) fn measure(phase: Phase, map: u8) -> Option<usize>
     ensures { MatchOption result (unfit phase map ≡ true) (λ n. (unfit phase map ≡ false) × (n ≡ span (layout phase) map)) }
 {
     let fields = widths(phase);
+    // A chain is no plainer: it would number the fields to ask for bits that the map, halved, shows in turn.
     let mut size = 0;
     let mut left = map;
     for width in fields {
         if left % 2 == 1 {
-            size += *width as usize;
+            size += usize::from(*width);
         }
         left /= 2;
     }

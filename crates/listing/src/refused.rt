@@ -48,14 +48,13 @@ impl fmt::Display for Explained<'_> {
             place,
             other,
         } = self.rejection;
-        let number = u8::from(reason);
-        write!(f, "refused {number} at {place}: ")?;
-        match reason {
-            Reason::OfForm(refusal) => write!(f, "{refusal}"),
-            Reason::OfRule(rule) => match view_at(self.views, place) {
-                Some(view) => write!(f, "{}", Broken { rule, view, other }),
-                None => write!(f, "{rule}"),
-            },
+        match (reason, view_at(self.views, place)) {
+            (Reason::OfRule(rule), Some(view)) => {
+                let number = u8::from(rule);
+                let broken = Broken { rule, view, other };
+                write!(f, "refused {number} at {place}: {broken}")
+            }
+            _ => write!(f, "{}", self.rejection),
         }
     }
 }

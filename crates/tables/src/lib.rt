@@ -3,9 +3,8 @@
 
 ghost use Rattle.std.specs.Prelude.{◌≡◌, ◌<◌, ◌≤◌, ◌↔◌, [], ◌∷◌, ◌++◌, length, IsOk, OnOk, OnErr, MatchOption, slice_index_or};
 
-use std::error::Error;
-use std::fmt;
 use std::marker::Model;
+use thiserror::Error;
 
 /// The items in the order in which they came, numbered from 0.
 // A project rule keeps it in fixed memory, so it is an array with a length and no `Vec`.
@@ -30,16 +29,9 @@ impl<T, const N: usize> Model for Table<T, N> {
 }
 
 /// There is no room for another item.
-#[derive(Clone, Copy, PartialEq, Eq, Debug)]
+#[derive(Clone, Copy, PartialEq, Eq, Debug, Error)]
+#[error("there is no room for another item")]
 pub struct Full;
-
-impl fmt::Display for Full {
-    fn fmt<W: fmt::Write>(&self, f: &mut fmt::Formatter<W>) -> fmt::Result {
-        write!(f, "there is no room for another item")
-    }
-}
-
-impl Error for Full {}
 
 impl<T: Copy, const N: usize> Table<T, N> {
     /// A table with no item.

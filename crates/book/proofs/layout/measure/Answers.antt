@@ -11,7 +11,8 @@ loop-width-preserved c =
     elim c.if-left-eq1.branch [
       | then-left-eq1 w ↦
           subst (λ size. Counted ws c.args.map (l.width-index + 1) size (l.left / 2)) (sym w.size-is)
-          (counted_more ws c.args.map l.width-index l.size l.left l.invariant c.loop-width-test.true (eq-eqb _ _ w.if-left-eq1.true))
+          (subst (λ n. Counted ws c.args.map (l.width-index + 1) (l.size + n) (l.left / 2)) (sym w.from-size.ensures)
+          (counted_more ws c.args.map l.width-index l.size l.left l.invariant c.loop-width-test.true (eq-eqb _ _ w.if-left-eq1.true)))
       | else-left-eq1 w ↦
           subst (λ size. Counted ws c.args.map (l.width-index + 1) size (l.left / 2)) (sym w.size-is)
           (counted_pass ws c.args.map l.width-index l.size l.left l.invariant c.loop-width-test.true (ne_eqb _ _ w.if-left-eq1.false))
