@@ -47,10 +47,10 @@ impl Position {
         Ok(())
     }
 
-    /// The record at the front of the bytes: its kind, how many of the kind came before it, and its length.
-    pub(crate) fn cut(self, bytes: &[u8]) -> Result<(Phase, usize, usize), Refusal>
+    /// The record at the front of the bytes: a position with its kind and how many of the kind came before, and its length.
+    pub(crate) fn cut(self, bytes: &[u8]) -> Result<(Position, usize), Refusal>
         requires { 1 ≤ length bytes.now }
-        ensures { MatchResult result (λ x. (cut self.phase (numbered self.phase self.number) bytes.now ≡ whole x.0 x.2) × (x.1 ≡ numbered self.phase self.number x.0)) (λ e. cut self.phase (numbered self.phase self.number) bytes.now ≡ broken e) }
+        ensures { MatchResult result (λ x. (cut self.phase (numbered self.phase self.number) bytes.now ≡ whole x.0.phase x.1) × (x.0.number ≡ numbered self.phase self.number x.0.phase)) (λ e. cut self.phase (numbered self.phase self.number) bytes.now ≡ broken e) }
     {
         let mut next = self;
         next.open(bytes[0])?;
@@ -64,6 +64,6 @@ impl Position {
         if rest.len() < size {
             return Err(Refusal::Ends);
         }
-        Ok((next.phase, next.number, 2 + size))
+        Ok((next, 2 + size))
     }
 }

@@ -29,7 +29,7 @@ impl<'a> Reader<'a> {
         Reader { book, position }
     }
 
-    // No `Iterator` is plainer: a refused reader stays as it was, so it would yield its refusal without end.
+    // No `Iterator` is plainer: it owes an end, and a refused reader stays as it was, to be refused again.
     /// The next record of the book, none at its end. A refused reader stays as it was.
     pub fn next(&mut self) -> Result<Option<Part<'a>>, Fault>
         ensures book { self.new.book.now ≡ self.old.book.now }
@@ -40,17 +40,17 @@ impl<'a> Reader<'a> {
         if bytes.is_empty() {
             return Ok(None);
         }
-        let (phase, number, size) = self
+        let (next, size) = self
             .position
             .cut(bytes)
             .map_err(|refusal| Fault { refusal, place })?;
         self.position = Position {
             at: place + size,
-            phase,
-            number: number + 1,
+            number: next.number + 1,
+            ..next
         };
         Ok(Some(Part {
-            phase,
+            phase: next.phase,
             place,
             bytes: &bytes[..size],
         }))

@@ -17,6 +17,7 @@ pub struct ViewFields {
 }
 
 /// A view on type 0 with nothing else.
+// Derived `Default` is no plainer: a constant has a name of its own for `..PLAIN`.
 pub const PLAIN: ViewFields = ViewFields {
     controlled: 0,
     bases: 0,

@@ -1,5 +1,6 @@
 //! Neighbours in the order of checks, where both apply: the first one answers.
 use crate::books::{check_refused, plain_records};
+use book::phase::Phase;
 use std::test::Fail;
 
 #[test]
@@ -15,21 +16,21 @@ fn version_before_order() -> Result<(), Fail> {
 
 #[test]
 fn order_before_too_many(rt: HostRuntime) -> Result<(), Fail> {
-    let mut book = plain_records(rt.alloc(), 1, 64)?;
+    let mut book = plain_records(rt.alloc(), Phase::Types, 64)?;
     book.extend_from_slice(&[2, 0, 1, 0])?;
     check_refused(&book, 3, 131)
 }
 
 #[test]
 fn too_many_before_map(rt: HostRuntime) -> Result<(), Fail> {
-    let mut book = plain_records(rt.alloc(), 1, 64)?;
+    let mut book = plain_records(rt.alloc(), Phase::Types, 64)?;
     book.extend_from_slice(&[1, 4])?;
     check_refused(&book, 7, 129)
 }
 
 #[test]
 fn too_many_without_a_map(rt: HostRuntime) -> Result<(), Fail> {
-    let mut book = plain_records(rt.alloc(), 1, 64)?;
+    let mut book = plain_records(rt.alloc(), Phase::Types, 64)?;
     book.push(1)?;
     check_refused(&book, 7, 129)
 }

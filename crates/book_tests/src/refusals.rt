@@ -1,5 +1,6 @@
 //! Each refusal, with its place.
 use crate::books::{check_passes, check_refused, plain_records};
+use book::phase::Phase;
 use std::test::Fail;
 
 #[test]
@@ -60,12 +61,12 @@ fn empty() -> Result<(), Fail> {
 
 #[test]
 fn too_many(rt: HostRuntime) -> Result<(), Fail> {
-    check_passes(&plain_records(rt.alloc(), 1, 64)?)?;
-    check_refused(&plain_records(rt.alloc(), 1, 65)?, 7, 129)?;
-    check_refused(&plain_records(rt.alloc(), 2, 65)?, 7, 129)?;
-    check_refused(&plain_records(rt.alloc(), 3, 65)?, 7, 129)?;
-    check_passes(&plain_records(rt.alloc(), 5, 256)?)?;
-    check_refused(&plain_records(rt.alloc(), 5, 257)?, 7, 513)
+    check_passes(&plain_records(rt.alloc(), Phase::Types, 64)?)?;
+    check_refused(&plain_records(rt.alloc(), Phase::Types, 65)?, 7, 129)?;
+    check_refused(&plain_records(rt.alloc(), Phase::Roles, 65)?, 7, 129)?;
+    check_refused(&plain_records(rt.alloc(), Phase::Groups, 65)?, 7, 129)?;
+    check_passes(&plain_records(rt.alloc(), Phase::Subjects, 256)?)?;
+    check_refused(&plain_records(rt.alloc(), Phase::Subjects, 257)?, 7, 513)
 }
 
 #[test]

@@ -1,6 +1,7 @@
 //! What the author of a book is told.
 use crate::books::plain_records;
 use crate::checks::check_eq;
+use book::phase::Phase;
 use listing::report::report_on;
 use std::alloc::Global;
 use std::test::Fail;
@@ -26,7 +27,7 @@ fn refusals_of_the_whole_book_and_of_kinds(rt: HostRuntime) -> Result<(), Fail> 
         &[1, 6],
         "refused 3 at 1: the kind byte is not 1 to 5, or is lower than the one before\n",
     )?;
-    let many = plain_records(rt.alloc(), 1, 65)?;
+    let many = plain_records(rt.alloc(), Phase::Types, 65)?;
     check_text(
         heap,
         &many,

@@ -3,7 +3,7 @@ ghost use Rattle.std.specs.Prelude.{◌<◌, IfSome};
 
 use std::alloc::{AllocError, Global};
 
-// The value of a digit. `to_digit` also takes uppercase ones, so it would be no plainer.
+// The value of a digit. `to_digit` and the library `hex` also take uppercase ones, so neither is plainer.
 fn digit(character: u8) -> Option<u8>
     ensures { IfSome result (λ x. x < 16) }
 {
