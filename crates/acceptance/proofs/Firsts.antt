@@ -75,16 +75,16 @@ first_one ((e unless P) ∷ cs) r s (inr p) (inr q) = first_one cs r s p.1 q.1
 
 -- ---- checks one by one
 
--- where the first holds, those behind it decide
-pub checked_next : {P : Type 0} (e : Rejection) (cs : List Check) (r : Result (Unit {0}) Rejection) → P → Checked cs r → Checked ((e unless P) ∷ cs) r
+-- where the first test passes, those behind it decide
+pub checked_next : {P : Type 0} {holds : Bool} (e : Rejection) (cs : List Check) (r : Result (Unit {0}) Rejection) → Decides holds P → holds ≡ true → Checked cs r → Checked ((e unless P) ∷ cs) r
 unfolding Checked
-checked_next e cs (Ok u) p f = inr (p, f)
-checked_next e cs (Err d) p f = inr (p, f)
+checked_next e cs (Ok u) t h f = inr (t.0 h, f)
+checked_next e cs (Err d) t h f = inr (t.0 h, f)
 
 -- where it does not, it rejects
-pub checked_broken : {P : Type 0} (e d : Rejection) (cs : List Check) (r : Result (Unit {0}) Rejection) → IsErrAnd r (λ y. y ≡ d) → (P → ⊥) × (d ≡ e) → Checked ((e unless P) ∷ cs) r
+pub checked_broken : {P : Type 0} {holds : Bool} (e d : Rejection) (cs : List Check) (r : Result (Unit {0}) Rejection) → Decides holds P → (holds ≡ false) × (d ≡ e) → IsErrAnd r (λ y. y ≡ d) → Checked ((e unless P) ∷ cs) r
 unfolding Checked
-checked_broken e d cs r i n = let p = err_from_is_err_and r i in rw p.1 (inl (n.0, ap Some (p.2 ∙ n.1)))
+checked_broken {holds = holds} e d cs r t n i = let p = err_from_is_err_and r i in rw p.1 (inl (not_from_Decides holds t n.0, ap Some (p.2 ∙ n.1)))
 
 -- a test that is the last
 pub checked_last : {P : Type 0} (e : Rejection) (holds : Bool) (r : Result (Unit {0}) Rejection) → Decides holds P → MatchResult r (λ _. holds ≡ true) (λ d. (holds ≡ false) × (d ≡ e)) → Checked ((e unless P) ∷ []) r

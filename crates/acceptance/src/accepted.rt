@@ -3,6 +3,7 @@ ghost use Rattle.acceptance.specs.Rules.{Accepted};
 
 use book::contents::Records;
 
+// The methods stand in a file of their own, since a type with a ghost field imports all that its file imports.
 pub mod methods;
 
 /// A book that was accepted: its records keep every rule, for as long as it exists.

@@ -26,8 +26,8 @@ impl<H: Hierarchy> Orders<'_, H> {
         requires second { second < length self.now.records.now.views }
         ensures { Iff (result ≡ true) (Shared self.now.records.now first second number) }
     {
-        self.type_is_below(number, self.view(first).controlled as usize)
-            && self.type_is_below(number, self.view(second).controlled as usize)
+        self.type_is_below(number, usize::from(self.view(first).controlled))
+            && self.type_is_below(number, usize::from(self.view(second).controlled))
     }
 
     /// The first two views that clash: the lowest first, and with it the lowest second.

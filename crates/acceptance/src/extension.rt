@@ -17,7 +17,7 @@ impl<H: Hierarchy> Orders<'_, H> {
     fn type_follows(&self, view: &View, base: &View) -> bool
         ensures { Iff (result ≡ true) (TypeFollows self.now.records.now view.now base.now) }
     {
-        self.type_is_below(view.controlled as usize, base.controlled as usize)
+        self.type_is_below(usize::from(view.controlled), usize::from(base.controlled))
     }
 
     // Whether the restriction follows that of the base.

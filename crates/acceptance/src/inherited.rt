@@ -33,6 +33,7 @@ pub fn subject_roles<H: Hierarchy>(records: &Records, groups: &H, number: usize)
         return NumberSet::empty();
     };
     let mut roles = NumberSet::empty();
+    // A closure that is asked for each member is no plainer than this loop, here and at the rows of an order.
     for group in subject.groups.iter() {
         roles = roles.union(group_roles(records, groups, group));
     }

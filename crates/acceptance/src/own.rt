@@ -16,7 +16,7 @@ impl<H: Hierarchy> Orders<'_, H> {
     fn has_own_operations(&self, view: &View) -> bool
         ensures { Iff (result ≡ true) (OwnOperations self.now.records.now view.now) }
     {
-        rights(view).is_subset(self.operations(view.controlled as usize))
+        rights(view).is_subset(self.operations(usize::from(view.controlled)))
     }
 
     /// Checks the view by itself.

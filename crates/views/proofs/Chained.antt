@@ -1,12 +1,7 @@
 -- What a chain of tests says, at each of the two ways through its code.
 use Rattle.std.proofs.Common.{◌≡◌, Bool, true, false, Decides, sym, ◌∙◌}
 use Rattle.std.proofs.lemmas.Bool.{both_ways}
-use Rattle.std.proofs.lemmas.Bool.Decides.{not_from_Decides, Decides-at, Decides-like}
-use Rattle.sets.specs.Members.{Iff}
-
--- a test of something is one of what is the same
-pub tells_by : {P Q : Type 0} (r : Bool) → Iff P Q → Decides r P → Decides r Q
-tells_by r i = Decides-like r i.0 i.1
+use Rattle.std.proofs.lemmas.Bool.Decides.{not_from_Decides, Decides-at}
 
 -- a && b, where a is true and b decides
 pub and_second : {P Q : Type 0} (a b r : Bool) → Decides a P → a ≡ true → Decides b Q → r ≡ b → Decides r (P × Q)

@@ -1,7 +1,8 @@
 -- Rules on rights, as facts on the four sets of operations.
-use Rattle.std.proofs.Common.{◌≡◌, ℕ, ◌⊎◌, refl, inl, inr, ⊎_elim}
+use Rattle.std.proofs.Common.{ℕ, Bool, Decides, ◌⊎◌, sym, refl, subst, inl, inr, ⊎_elim}
 use mathlib.Core.Logic.{∥∥₁_elim}
 use native.Mathlib.Nat.{ℕ_set}
+use Rattle.std.proofs.lemmas.Bool.Decides.{Decides-like}
 use Rattle.sets.specs.declared.NumberSet.{NumberSet}
 use Rattle.sets.specs.Members.{In, Iff}
 use Rattle.records.specs.declared.View.{View}
@@ -44,18 +45,6 @@ apart_one v a strong_denial strong_permission o n h k = a.1 o (inr k) (strong_de
 apart_one v a strong_denial weak_denial o n h k = a.0.1 o k h
 apart_one v a strong_denial strong_denial o n h k = n refl
 
-permission_no_denial : (v : View) (x y : Right) → (Denies x → ⊥) → Denies y → x ≡ y → ⊥
-permission_no_denial v weak_permission weak_permission n d e = d
-permission_no_denial v weak_permission strong_permission n d e = d
-permission_no_denial v weak_permission weak_denial n d e = cc
-permission_no_denial v weak_permission strong_denial n d e = cc
-permission_no_denial v strong_permission weak_permission n d e = d
-permission_no_denial v strong_permission strong_permission n d e = d
-permission_no_denial v strong_permission weak_denial n d e = cc
-permission_no_denial v strong_permission strong_denial n d e = cc
-permission_no_denial v weak_denial y n d e = n tt
-permission_no_denial v strong_denial y n d e = n tt
-
 pub one_apart : (v : View) → OneRight v → Apart v
 one_apart v one = (
   (
@@ -64,8 +53,8 @@ one_apart v one = (
   ),
   λ o p d.
       ⊎_elim
-      (λ h. one weak_permission d.0 o (permission_no_denial v weak_permission d.0 (λ x. x) d.1) h d.2)
-      (λ h. one strong_permission d.0 o (permission_no_denial v strong_permission d.0 (λ x. x) d.1) h d.2)
+      (λ h. one weak_permission d.0 o (λ e. subst Denies (sym e) d.1) h d.2)
+      (λ h. one strong_permission d.0 o (λ e. subst Denies (sym e) d.1) h d.2)
       p,
 )
 
@@ -126,12 +115,13 @@ become_rights v s i o = (λ h. let k = (i o).0 h in ∣ (k.0, (tt, k.1)) ∣₁,
 pub become_strong_denials : (v : View) → HasBecome v strong_denial v.strong.denied
 become_strong_denials v o = (λ h. ∣ (strong_denial, (tt, h)) ∣₁, λ e. ∥∥₁_elim e (ℕ_set _ _) (λ p. stays_denied v o p.0 p.1.0 p.1.1))
 
--- that set has what the base has
-pub kept_in : (v w : View) (x : Right) (s : NumberSet) → HasBecome v x s → Iff ((o : ℕ) → Has w x o → In o s) (KeptRight v w x)
-kept_in v w x s i = (λ k o h. (i o).0 (k o h), λ k o h. (i o).1 (k o h))
+-- a test that this set has what the base has is one of the right
+pub kept_in : (v w : View) (x : Right) (s : NumberSet) → HasBecome v x s → (r : Bool) → Decides r ((o : ℕ) → Has w x o → In o s) → Decides r (KeptRight v w x)
+kept_in v w x s i r = Decides-like r (λ k o h. (i o).0 (k o h)) (λ k o h. (i o).1 (k o h))
 
-pub new_in : (v w : View) (denials rights : NumberSet) → ((o : ℕ) → Iff (In o denials) ((y : Right) × Denies y × Has v y o)) → ((o : ℕ) → Iff (In o rights) ((x : Right) × Has w x o)) → Iff ((o : ℕ) → In o denials → In o rights) (NewPermitted v w)
-new_in v w denials rights i j = (
-  λ k y o d h. ∣ (j o).0 (k o ((i o).1 (y, d, h))) ∣₁,
-  λ n o h. let p = (i o).0 h in ∥∥₁_elim (n p.0 o p.1 p.2) (ℕ_set _ _) (λ q. (j o).1 q),
-)
+pub new_in : (v w : View) (denials rights : NumberSet) → ((o : ℕ) → Iff (In o denials) ((y : Right) × Denies y × Has v y o)) → ((o : ℕ) → Iff (In o rights) ((x : Right) × Has w x o))
+    → (r : Bool) → Decides r ((o : ℕ) → In o denials → In o rights) → Decides r (NewPermitted v w)
+new_in v w denials rights i j r =
+    Decides-like r
+    (λ k y o d h. ∣ (j o).0 (k o ((i o).1 (y, d, h))) ∣₁)
+    (λ n o h. let p = (i o).0 h in ∥∥₁_elim (n p.0 o p.1 p.2) (ℕ_set _ _) (λ q. (j o).1 q))

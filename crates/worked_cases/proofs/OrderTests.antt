@@ -29,14 +29,14 @@ as_set s = record { bits = s }
 stepped_walks : (links : List NumberSet) (a i seen : ℕ) (b : Bool) → Falling links → has i seen ≡ b → Walk links a (suc i) (as_set seen) → Walk links a i (as_set (cond b (bit_or seen (links_of links i).bits) seen))
 stepped_walks links a i seen true f e w =
     let p : suc i - 1 ≡ i = omega arith in
-    let m : In (suc i - 1) (as_set seen) = subst (λ x. In x (as_set seen)) (sym p) ((tells_has i seen).sound e) in
+    let m : In (suc i - 1) (as_set seen) = subst (λ x. In x (as_set seen)) (sym p) ((tells_has i seen).decides.0 e) in
     subst (λ x. Walk links a x (as_set (bit_or seen (links_of links i).bits))) p
     (walk_take links a (suc i) (as_set seen) (as_set (bit_or seen (links_of links i).bits)) (links_of links (suc i - 1)) f (omega arith) w m refl
     (subst (λ x. (k : ℕ) → Iff (Bit k (bit_or seen (links_of links i).bits)) (Bit k seen ⊎ In k (links_of links x))) (sym p) (λ k. member.in_or k seen (links_of links i).bits)))
 stepped_walks links a i seen false f e w =
     let p : suc i - 1 ≡ i = omega arith in
     subst (λ x. Walk links a x (as_set seen)) p
-    (walk_pass links a (suc i) (as_set seen) (omega arith) w (λ h. both_ways (has i seen) e ((tells_has i seen).complete (subst (λ x. Bit x seen) p h))))
+    (walk_pass links a (suc i) (as_set seen) (omega arith) w (λ h. both_ways (has i seen) e ((tells_has i seen).decides.1 (subst (λ x. Bit x seen) p h))))
 
 walked_walks : (links : List NumberSet) (a i seen : ℕ) → Falling links → Walk links a i (as_set seen) → Walk links a 0 (as_set (walked links i seen))
 walked_walks links a zero seen f w = w

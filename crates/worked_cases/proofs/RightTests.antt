@@ -170,11 +170,11 @@ tells_rights v w s t =
     (tells_and
     (tells_and
     (tells_and
-    (tells_also (kept_in v w weak_permission _ (become_permissions v (record { bits = permissions v }) (in_permissions v))) (tells_within _ _ (t.right weak_permission) (small_permissions v s)))
-    (tells_also (kept_in v w strong_permission _ (become_strong_permissions v)) (tells_within _ _ (t.right strong_permission) (s.right strong_permission))))
-    (tells_also (kept_in v w weak_denial _ (become_rights v (record { bits = rights v }) (in_rights v))) (tells_within _ _ (t.right weak_denial) (small_rights v s))))
-    (tells_also (kept_in v w strong_denial _ (become_strong_denials v)) (tells_within _ _ (t.right strong_denial) (s.right strong_denial))))
-    (tells_also (new_in v w (record { bits = denials v }) (record { bits = rights w }) (in_denials v) (in_rights w)) (tells_within _ _ (small_denials v s) (small_rights w t))))
+    (record { decides = kept_in v w weak_permission _ (become_permissions v (record { bits = permissions v }) (in_permissions v)) _ (tells_within _ _ (t.right weak_permission) (small_permissions v s)).decides })
+    (record { decides = kept_in v w strong_permission _ (become_strong_permissions v) _ (tells_within _ _ (t.right strong_permission) (s.right strong_permission)).decides }))
+    (record { decides = kept_in v w weak_denial _ (become_rights v (record { bits = rights v }) (in_rights v)) _ (tells_within _ _ (t.right weak_denial) (small_rights v s)).decides }))
+    (record { decides = kept_in v w strong_denial _ (become_strong_denials v) _ (tells_within _ _ (t.right strong_denial) (s.right strong_denial)).decides }))
+    (record { decides = new_in v w (record { bits = denials v }) (record { bits = rights w }) (in_denials v) (in_rights w) _ (tells_within _ _ (small_denials v s) (small_rights w t)).decides }))
 
 -- ---- of two views
 

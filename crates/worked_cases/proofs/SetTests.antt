@@ -65,8 +65,8 @@ gathered zero row carried = 0
 gathered (suc n) row carried = bit_or (gathered n row carried) (cond (has n row) (carried n) 0)
 
 if_had : (b : Bool) (P : Type 0) (k x : ℕ) → Tells b P → Iff (Bit k (cond b x 0)) (P × Bit k x)
-if_had true P k x t = (λ h. (t.sound refl, h), λ p. p.1)
-if_had false P k x t = (λ h. absurd (member.not_in_none k h), λ p. absurd (cc (t.complete p.0)))
+if_had true P k x t = (λ h. (t.decides.0 refl, h), λ p. p.1)
+if_had false P k x t = (λ h. absurd (member.not_in_none k h), λ p. absurd (cc (t.decides.1 p.0)))
 
 pub in_gathered : (n row : ℕ) (carried : ℕ → ℕ) (k : ℕ) → Iff (Bit k (gathered n row carried)) (Exists (λ s. (s < n) × Bit s row × Bit k (carried s)))
 in_gathered zero row carried k = (λ h. absurd (member.not_in_none k h), λ p. ∥∥₁_elim p (ℕ_set _ _) (λ s. let l = s.1.0 in absurd (omega arith)))

@@ -33,8 +33,8 @@ matched_each zero f g h = end
 matched_each (suc n) f g h = matched_both (matched_each n f g h) (h n)
 
 first_by : (e : Rejection) (P : Type 0) (b : Bool) (cs : List Check) (o : Option Rejection) → Tells b P → First cs o → First ((e unless P) ∷ cs) (cond b o (Some e))
-first_by e P true cs o t f = inr (t.sound refl, f)
-first_by e P false cs o t f = inl (λ p. false≢true (t.complete p), refl)
+first_by e P true cs o t f = inr (t.decides.0 refl, f)
+first_by e P false cs o t f = inl (λ p. false≢true (t.decides.1 p), refl)
 
 pub matched_first : {cs : List Check} {ts : List Trial} → Matched cs ts → First cs (first_failing ts)
 matched_first end = refl

@@ -1,4 +1,4 @@
-use Rattle.std.proofs.Common.{◌≡◌, ◌<◌, ◌^◌, ◌∙◌, sym, ap, subst, inr, ⊎_elim, arith}
+use Rattle.std.proofs.Common.{◌<◌, ◌^◌, ◌≡◌, ◌∙◌, ap, subst, inr, ⊎_elim, arith}
 use mathlib.Core.Logic.{∥∥₁_elim, ∥∥₁_map}
 use mathlib.Core.HLevel.{⊥_prop}
 use Rattle.std.proofs.lemmas.List.{get_or_past}
@@ -28,7 +28,7 @@ pub returns : goal.returns
 returns g c m k =
     let all = c.args.records.now in
     let mine : c.into_iter-group-iterator.result.left ≡ c.in-Some.subject.groups = ap (λ m. m.left) c.into_iter-group-iterator.ensures.into_iter_gives ∙ c.iter-group-items.ensures in
-    let small = subst (λ (s : NumberSet). s.bits < 2 ^ 64) (sym mine) (omega arith) in
+    let small : c.into_iter-group-iterator.result.left.bits < 2 ^ 64 = omega (arith, ap (λ s. s.bits) mine) in
     let found = ap (λ s. s.groups) (c.in-Some.ensures.1 _) in
     let gathered = gathered_all (RoleOf all) c.empty-roles.result c.into_iter-group-iterator.result.left c.loop-group.roles _ small c.in-None.ensures.steps.0 (c.loop-group.invariant m) k in
     subst (λ (s : NumberSet). Iff (In k c.loop-group.roles) (Exists (λ h. In h s × RoleOf all h k))) (mine ∙ found) (

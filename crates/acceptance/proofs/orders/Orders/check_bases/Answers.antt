@@ -12,7 +12,7 @@ loop-number-init g c =
     let all = c.args.self.now.records.now in
     let v = c.args.view.now in
     let mine : c.into_iter-number-iterator.result.left ≡ v.bases = ap (λ m. m.left) c.into_iter-number-iterator.ensures.into_iter_gives ∙ c.iter-number-items.ensures in
-    let small = subst (λ (s : NumberSet). s.bits < 2 ^ 64) mine (omega arith) in
+    let small : v.bases.bits < 2 ^ 64 = omega (arith, ap (λ s. s.bits) mine) in
     subst (λ (s : NumberSet). Visited (λ i. Passes (of_base all v i)) (members v.bases) (members s)) (sym mine) (record {
       within = λ k h. h;
       done = λ i n.
