@@ -4,19 +4,25 @@ set -euo pipefail
 cd "$(dirname "$0")/.."
 list=${1:-}
 
-# Lines of the code that match a pattern.
-count() {
-    local point=$1 what=$2 pattern=$3
-    local found
-    found=$(grep -rnE -e "$pattern" crates/*/src --include='*.rt' || true)
+# How many lines were found, and with -l the lines.
+show() {
+    local point=$1 what=$2 found=$3
     printf '%-3s %4d  %s\n' "$point" "$(printf '%s' "$found" | grep -c . || true)" "$what"
     if [ "$list" = -l ] && [ -n "$found" ]; then
         printf '%s\n' "$found" | cut -c1-150 | sed 's/^/          /'
     fi
 }
 
+# Lines of the code that match a pattern.
+count() {
+    show "$1" "$2" "$(grep -rnE -e "$3" crates/*/src --include='*.rt' || true)"
+}
+
 count 1 "enums" '^ *(pub )?enum '
-count 1 "enums that derive no comparison" '^(pub )?enum (Phase|Refusal|Rule|Reason|Record|Report|JudgedReport|Judgement)\b'
+show 1 "enums that derive no comparison" "$(awk '
+    /^#\[derive/ { derived = $0 }
+    /^(pub )?enum / { if (derived !~ /PartialEq/) print FILENAME ":" FNR ":" $0; derived = "" }
+' $(find crates/*/src -name '*.rt' | sort))"
 count 1 "a check that answers None where it passes" '\) -> Option<Rejection>|^\) -> Option<Rejection>'
 count 1 "a bool that says whether a change took place" '&mut self.*-> bool'
 count 1 "an error passed on by hand" 'if let Some\(rejection\) =|if let Err\(|Err\(\w+\) => (return )?Err|Err\(\w+\) => (return )?\w+::\w+\('

@@ -97,7 +97,7 @@ impl FromFields for SubjectRecord {
     }
 }
 
-// Who may hold a view, how it may be held, and its rights.
+// Who may hold a view, how it may be held, and its rights. The modifiers are a byte, as those of a `View`.
 #[derive(Clone, Copy)]
 struct Terms {
     restriction: NumberSet,

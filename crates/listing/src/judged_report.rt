@@ -12,6 +12,7 @@ use hierarchy::kept::Kept;
 use std::fmt;
 
 /// What there is to say of a book.
+// Three outcomes, so a result in a result is no plainer; and no comparison, since none may see a table's unused places.
 #[derive(Drop)]
 pub enum JudgedReport {
     /// The accepted book.
