@@ -16,6 +16,7 @@ use Rattle.book.specs.declared.contents.Records.{Records}
 use Rattle.book.specs.Contents.{Record, AType, ARole, AGroup, AView, ASubject, nothing, count, filed, filed_all}
 use Rattle.book.specs.Form.{marked, piece, pieces, behind, wrong, wrong_next, wrong_names, wrong_controlled, or_else, first_wrong, Cut, whole, broken, cut, record_from, State, start, advanced, after_fields, after_cut, records_in, form, filing, reading}
 use Rattle.book.specs.Declarations.{Declares, no_view}
+use Rattle.book.proofs.Pieces.{or_else_none}
 use Rattle.book.proofs.Fieldwise.{Needed}
 use Rattle.book.proofs.Cuts.{Whole, cut_whole, needed}
 use Rattle.book.proofs.Values.{both_none, below_none}
@@ -35,10 +36,6 @@ Names c (AView r) =
     × ((k : ℕ) → In k r.restriction → k < length c.roles)
 Names c (ASubject r) = (k : ℕ) → In k r.groups → k < length c.groups
 
-neither : (a b : Option Refusal) → or_else a b ≡ None → (a ≡ None) × (b ≡ None)
-neither (Some r) b e = absurd (let z : ◌≡◌ {A = ℕ} 0 1 = cc in omega arith)
-neither None b e = (refl, e)
-
 named_by : (n : ℕ) (b : Bool) (bs : List ℕ) → cond b (wrong_names n bs) None ≡ None → (k : ℕ) → In k (set_of (cond b bs [])) → k < n
 named_by n true bs e k h =
     let t = both_none (is_empty (set_of bs)) (is_below n (set_of bs)) e in
@@ -56,7 +53,7 @@ controlled_by n false bs e l = absurd (omega arith)
 -- nothing is wrong with the first field, and nothing with the others
 none_wrong : (c : Records) (f : Field) (L : List Field) (m : ℕ) (bs : List ℕ) → first_wrong c (f ∷ L) m bs ≡ None
     → (wrong_next (wrong c f) (width f) m bs ≡ None) × (first_wrong c L (m / 2) (behind (width f) m bs) ≡ None)
-none_wrong c f L m bs e = neither (wrong_next (wrong c f) (width f) m bs) (first_wrong c L (m / 2) (behind (width f) m bs)) e
+none_wrong c f L m bs e = or_else_none (wrong_next (wrong c f) (width f) m bs) (first_wrong c L (m / 2) (behind (width f) m bs)) e
 
 -- fields that pass make a record that names what is declared
 names_from : (c : Records) (p : Phase) (at m : ℕ) (bs : List ℕ) → first_wrong c (layout p) m bs ≡ None → Needed p (pieces (layout p) m bs)

@@ -134,7 +134,8 @@ none_wrong c (f ∷ L) ((x ∷ b) ∷ fs) more g =
     ∙ ap₂ (λ o k. or_else o (first_wrong c L k (together fs ++ more))) p.1.1 (half_odd m)
     ∙ none_wrong c L fs more g.1
 
-or_else_none : (o p : Option Refusal) → or_else o p ≡ None → (o ≡ None) × (p ≡ None)
+-- where neither of two refusals is left, each is none
+pub or_else_none : (o p : Option Refusal) → or_else o p ≡ None → (o ≡ None) × (p ≡ None)
 or_else_none (Some r) p e = absurd (let z : ◌≡◌ {A = ℕ} 0 1 = cc in omega arith)
 or_else_none None p e = (refl, e)
 
