@@ -10,7 +10,7 @@ use hierarchy::order::Hierarchy;
 use sets::NumberSet;
 
 // One function for types and groups is no plainer: `collect` is the generic one, and these say what it gives in a book's words.
-// Nor is a struct of records and order, which could be made of falling records alone and so would ask more of callers.
+// Nor is a struct of records and an order: it could be made only of records that fall, and so would ask more of callers.
 /// The operations of a type, under the order of the records' types.
 pub fn type_operations<H: Hierarchy>(records: &Records, types: &H, number: usize) -> NumberSet
     ensures { Means (H.Hierarchy.pairs types.now) (type_links records.now) → (o : ℕ) → Iff (In o result) (OperationOf records.now number o) }
@@ -33,7 +33,8 @@ pub fn subject_roles<H: Hierarchy>(records: &Records, groups: &H, number: usize)
         return NumberSet::empty();
     };
     let mut roles = NumberSet::empty();
-    // A closure that is asked for each member is no plainer than this loop, here and at the rows of an order.
+    // One function for this loop and that of an order's rows is no plainer: it would take a closure from a member to a set,
+    // with a contract of its own.
     for group in subject.groups.iter() {
         roles = roles.union(group_roles(records, groups, group));
     }

@@ -59,6 +59,7 @@ impl Records {
         requires { length part.bytes.now ≡ 2 + span (layout part.phase) (slice_index part.bytes.now 1) }
         ensures { Told result (first_wrong self.now (layout part.entry.phase) (slice_index part.entry.bytes.now 1) (drop 2 part.entry.bytes.now)) (record_from part.entry.phase part.entry.place (pieces (layout part.entry.phase) (slice_index part.entry.bytes.now 1) (drop 2 part.entry.bytes.now))) }
     {
+        // A project rule asks that a part be matched as its kind, its map and the rest before its fields are taken.
         match part.bytes {
             [_kind, map, rest @ ..] => self.record_from(
                 part.phase,

@@ -8,7 +8,7 @@ use crate::refusal::Refusal;
 use sets::NumberSet;
 
 /// What is left of a record's fields: bit 0 of the map is that of the next field.
-// No ghost field says that enough bytes are left, since how many are needed hangs on which field is taken next.
+// No ghost field says that enough bytes are left, since how many are needed depends on which field is taken next.
 #[derive(Clone, Copy)]
 pub(crate) struct Fields<'a> {
     pub(crate) map: u8,

@@ -33,6 +33,7 @@ pub fn read(book: &[u8]) -> Result<Records, Fault>
     check_opening(book).map_err(|refusal| Fault { refusal, place: 0 })?;
     let mut reader = Reader::new(book);
     let mut records = Records::empty();
+    // A loop over the reader itself is no plainer: it is no `Iterator`, as its `next` says.
     while let Some(part) = reader.next()? {
         let record = records.made_of(part).map_err(|refusal| Fault {
             refusal,

@@ -8,6 +8,7 @@ use crate::position::Position;
 use crate::refusal::Fault;
 
 /// A reader of a book's records. It borrows the book, and hands out its parts in their order.
+// A project rule asks for a reader over the lent book whose parts borrow it.
 #[derive(Drop)]
 pub struct Reader<'a> {
     book: &'a [u8],

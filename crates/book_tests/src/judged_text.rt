@@ -1,6 +1,6 @@
 //! What the author of a book is told of how it is judged.
 use crate::checks::check;
-use crate::made::{PLAIN, ViewFields, book_of};
+use crate::made::{ViewFields, book_of};
 use crate::worked::BOOK;
 use listing::judged_report::judged_report_on;
 use std::alloc::Global;
@@ -47,16 +47,16 @@ fn a_refusal_of_the_form(rt: HostRuntime) -> Result<(), Fail> {
 fn a_view_and_its_base(rt: HostRuntime) -> Result<(), Fail> {
     let base = ViewFields {
         strongly_denied: 1,
-        ..PLAIN
+        ..ViewFields::default()
     };
     let view = ViewFields {
         bases: 2,
         weakly_permitted: 1,
-        ..PLAIN
+        ..ViewFields::default()
     };
     check_end(
         rt.alloc(),
-        &book_of(rt.alloc(), &[PLAIN, base, view])?,
+        &book_of(rt.alloc(), &[ViewFields::default(), base, view])?,
         "views 3, subjects 0\nrefused 18 at 75: view 2 against its base view 1: a right of the base is missing or changed in a way that is not allowed, or a new right denies\n",
     )
 }
@@ -65,12 +65,12 @@ fn a_view_and_its_base(rt: HostRuntime) -> Result<(), Fail> {
 fn two_views_that_clash(rt: HostRuntime) -> Result<(), Fail> {
     let permits = ViewFields {
         strongly_permitted: 1,
-        ..PLAIN
+        ..ViewFields::default()
     };
     let denies = ViewFields {
         controlled: 1,
         strongly_denied: 1,
-        ..PLAIN
+        ..ViewFields::default()
     };
     check_end(
         rt.alloc(),

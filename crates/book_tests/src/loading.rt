@@ -1,7 +1,7 @@
 //! Loading: an accepted book replaces the one before, and a rejected one leaves it.
 use crate::checks::{check, check_eq};
 use crate::judged::check_accepted;
-use crate::made::{PLAIN, ViewFields, book_of};
+use crate::made::{ViewFields, book_of};
 use crate::worked::BOOK;
 use acceptance::accepted::Book;
 use hierarchy::kept::Kept;
@@ -32,7 +32,7 @@ fn a_rejected_book_leaves(rt: HostRuntime) -> Result<(), Fail> {
     let denies = ViewFields {
         modifiers: 1,
         weakly_denied: 1,
-        ..PLAIN
+        ..ViewFields::default()
     };
     let rejected = book_of(rt.alloc(), &[denies])?;
     check(book.load::<Kept>(&rejected).is_err())?;

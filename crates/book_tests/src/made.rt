@@ -1,9 +1,9 @@
 //! Books that are made of views on given types and roles.
 use std::alloc::{AllocError, Global};
 
-/// A view to be written, its sets as words of bits.
+/// A view to be written, its sets as words of bits: by default on type 0 with nothing else.
 // Numbers as a book has them, since bytes are what is tested: names are no plainer here.
-#[derive(Clone, Copy)]
+#[derive(Clone, Copy, Default)]
 pub struct ViewFields {
     pub controlled: u8,
     pub bases: u64,
@@ -15,20 +15,6 @@ pub struct ViewFields {
     pub weakly_denied: u64,
     pub strongly_denied: u64,
 }
-
-/// A view on type 0 with nothing else.
-// Derived `Default` is no plainer: a constant has a name of its own for `..PLAIN`.
-pub const PLAIN: ViewFields = ViewFields {
-    controlled: 0,
-    bases: 0,
-    required: 0,
-    restriction: 0,
-    modifiers: 0,
-    weakly_permitted: 0,
-    strongly_permitted: 0,
-    weakly_denied: 0,
-    strongly_denied: 0,
-};
 
 /// Where the first view of a book stands.
 pub const FIRST: usize = 53;

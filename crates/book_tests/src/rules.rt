@@ -1,6 +1,6 @@
 //! Each rule, with the place and the other view of its rejection.
 use crate::judged::{check_accepted, check_rejected};
-use crate::made::{FIRST, PLAIN, ViewFields, book_of};
+use crate::made::{FIRST, ViewFields, book_of};
 use std::test::Fail;
 
 #[test]
@@ -8,22 +8,27 @@ fn two_rights(rt: HostRuntime) -> Result<(), Fail> {
     let view = ViewFields {
         weakly_permitted: 1,
         strongly_permitted: 1,
-        ..PLAIN
+        ..ViewFields::default()
     };
-    check_rejected(&book_of(rt.alloc(), &[PLAIN, view])?, 11, FIRST + 3, None)
+    check_rejected(
+        &book_of(rt.alloc(), &[ViewFields::default(), view])?,
+        11,
+        FIRST + 3,
+        None,
+    )
 }
 
 #[test]
 fn foreign_operation(rt: HostRuntime) -> Result<(), Fail> {
     let view = ViewFields {
         weakly_permitted: 4,
-        ..PLAIN
+        ..ViewFields::default()
     };
     check_rejected(&book_of(rt.alloc(), &[view])?, 12, FIRST, None)?;
     let inherited = ViewFields {
         controlled: 1,
         weakly_permitted: 7,
-        ..PLAIN
+        ..ViewFields::default()
     };
     check_accepted(&book_of(rt.alloc(), &[inherited])?)
 }
@@ -33,7 +38,7 @@ fn assignable_denial(rt: HostRuntime) -> Result<(), Fail> {
     let view = ViewFields {
         modifiers: 1,
         weakly_denied: 1,
-        ..PLAIN
+        ..ViewFields::default()
     };
     check_rejected(&book_of(rt.alloc(), &[view])?, 13, FIRST, None)
 }
@@ -43,7 +48,7 @@ fn virtual_right(rt: HostRuntime) -> Result<(), Fail> {
     let view = ViewFields {
         modifiers: 2,
         weakly_permitted: 1,
-        ..PLAIN
+        ..ViewFields::default()
     };
     check_rejected(&book_of(rt.alloc(), &[view])?, 14, FIRST, None)
 }
@@ -52,24 +57,27 @@ fn virtual_right(rt: HostRuntime) -> Result<(), Fail> {
 fn controlled_type(rt: HostRuntime) -> Result<(), Fail> {
     let base = ViewFields {
         controlled: 1,
-        ..PLAIN
+        ..ViewFields::default()
     };
-    let view = ViewFields { bases: 1, ..PLAIN };
+    let view = ViewFields {
+        bases: 1,
+        ..ViewFields::default()
+    };
     check_rejected(&book_of(rt.alloc(), &[base, view])?, 15, FIRST + 3, Some(0))?;
     let lower = ViewFields { bases: 1, ..base };
-    check_accepted(&book_of(rt.alloc(), &[PLAIN, lower])?)
+    check_accepted(&book_of(rt.alloc(), &[ViewFields::default(), lower])?)
 }
 
 #[test]
 fn role_restriction(rt: HostRuntime) -> Result<(), Fail> {
     let base = ViewFields {
         restriction: 1,
-        ..PLAIN
+        ..ViewFields::default()
     };
     let view = ViewFields {
         bases: 1,
         restriction: 6,
-        ..PLAIN
+        ..ViewFields::default()
     };
     check_rejected(
         &book_of(rt.alloc(), &[base, view])?,
@@ -77,7 +85,10 @@ fn role_restriction(rt: HostRuntime) -> Result<(), Fail> {
         FIRST + 11,
         Some(0),
     )?;
-    let open = ViewFields { bases: 1, ..PLAIN };
+    let open = ViewFields {
+        bases: 1,
+        ..ViewFields::default()
+    };
     check_rejected(
         &book_of(rt.alloc(), &[base, open])?,
         16,
@@ -95,16 +106,22 @@ fn role_restriction(rt: HostRuntime) -> Result<(), Fail> {
 fn requirement(rt: HostRuntime) -> Result<(), Fail> {
     let base = ViewFields {
         required: 1,
-        ..PLAIN
+        ..ViewFields::default()
     };
-    let view = ViewFields { bases: 2, ..PLAIN };
-    let book = book_of(rt.alloc(), &[PLAIN, base, view])?;
+    let view = ViewFields {
+        bases: 2,
+        ..ViewFields::default()
+    };
+    let book = book_of(rt.alloc(), &[ViewFields::default(), base, view])?;
     check_rejected(&book, 17, FIRST + 14, Some(1))?;
     let fixed = ViewFields {
         modifiers: 4,
-        ..PLAIN
+        ..ViewFields::default()
     };
-    let loose = ViewFields { bases: 1, ..PLAIN };
+    let loose = ViewFields {
+        bases: 1,
+        ..ViewFields::default()
+    };
     check_rejected(
         &book_of(rt.alloc(), &[fixed, loose])?,
         17,
@@ -118,11 +135,11 @@ fn redefinition(rt: HostRuntime) -> Result<(), Fail> {
     let view = ViewFields {
         bases: 1,
         weakly_permitted: 1,
-        ..PLAIN
+        ..ViewFields::default()
     };
     let strong = ViewFields {
         strongly_denied: 1,
-        ..PLAIN
+        ..ViewFields::default()
     };
     check_rejected(
         &book_of(rt.alloc(), &[strong, view])?,
@@ -132,7 +149,7 @@ fn redefinition(rt: HostRuntime) -> Result<(), Fail> {
     )?;
     let weak = ViewFields {
         weakly_denied: 1,
-        ..PLAIN
+        ..ViewFields::default()
     };
     check_accepted(&book_of(rt.alloc(), &[weak, view])?)
 }
@@ -141,14 +158,14 @@ fn redefinition(rt: HostRuntime) -> Result<(), Fail> {
 fn clashing(rt: HostRuntime) -> Result<(), Fail> {
     let permits = ViewFields {
         strongly_permitted: 1,
-        ..PLAIN
+        ..ViewFields::default()
     };
     let denies = ViewFields {
         controlled: 1,
         strongly_denied: 1,
-        ..PLAIN
+        ..ViewFields::default()
     };
-    let book = book_of(rt.alloc(), &[PLAIN, permits, denies])?;
+    let book = book_of(rt.alloc(), &[ViewFields::default(), permits, denies])?;
     check_rejected(&book, 19, FIRST + 3, Some(2))?;
     let elsewhere = ViewFields {
         controlled: 2,

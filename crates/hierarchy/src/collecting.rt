@@ -17,6 +17,7 @@ pub trait Carrier {
         ensures { result ≡ carried self.now };
 }
 
+// A project rule asks for one generic function under the hierarchy's bound.
 /// What hangs on a number and on everything above it.
 pub fn collect<H: Hierarchy, R: Carrier>(order: &H, records: &[R], number: usize) -> NumberSet
     ensures { (k : ℕ) → Iff (In k result) (Collected (H.Hierarchy.pairs order.now) (map R.Carrier.carried records.now) number k) }

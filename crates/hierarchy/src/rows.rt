@@ -22,7 +22,8 @@ fn row(links: &Links, of: &[u64; 64], number: usize) -> NumberSet
 {
     let mut row = NumberSet::empty();
     row.insert(number);
-    // A closure that is asked for each member is no plainer: its index would have to be known to the set.
+    // A function that calls a closure for each member is no plainer: the closure indexes the rows, so the contract would have
+    // to say which numbers it is given.
     for lower in links.above(number) {
         row = row.union(NumberSet::from(of[lower]));
     }

@@ -12,7 +12,8 @@ use hierarchy::kept::Kept;
 use std::fmt;
 
 /// What there is to say of a book.
-// Three outcomes, so a result in a result is no plainer; and no comparison, since none may see a table's unused places.
+// Three outcomes, so a result in a result is no plainer. No comparison: a derived one would compare the places of a table
+// behind its last item, which clauses do not see.
 #[derive(Drop)]
 pub enum JudgedReport {
     /// The accepted book.
