@@ -1,4 +1,5 @@
 //! The accepted book.
+ghost use Rattle.book.specs.Declarations.{WithinLimits};
 ghost use Rattle.acceptance.specs.Rules.{Accepted};
 
 use book::contents::Records;
@@ -11,4 +12,5 @@ pub mod methods;
 pub struct Book {
     records: Records,
     ghost accepted: { ∥ Accepted records ∥₁ },
+    ghost within: { WithinLimits records },
 }

@@ -5,6 +5,7 @@ use Rattle.std.proofs.lemmas.Bool.{le-leb, lt-leb, or_left, or_right, or_from, c
 use Rattle.std.proofs.lemmas.Nat.{shr-shr}
 use Rattle.sets.proofs.Membership.{shifted_out}
 use Rattle.book.specs.declared.phase.Phase.{Phase}
+use Rattle.book.specs.declared.phase.Phase.TheVariants.{Types, Roles, Groups, Views, Subjects}
 use Rattle.book.specs.Layout.{Field, width, layout, needs_first}
 use Rattle.book.specs.Form.{marked, span, unfit}
 
@@ -25,6 +26,28 @@ span_widths (f ∷ L) m = ap (λ n. cond (marked m) (width f) 0 + n) (span_width
 past_is : (ws : List ℕ) (m : ℕ) → past_of ws m ≡ m / 2 ^ length ws
 past_is [] m = omega arith
 past_is (w ∷ ws) m = past_is ws (m / 2) ∙ shr-shr m 1 (length ws) ∙ ap (λ n. m / 2 ^ n) (one-add (length ws))
+
+at_most : (t : Bool) (w : ℕ) → cond t w 0 ≤ w
+at_most true w = omega arith
+at_most false w = omega arith
+
+total : List ℕ → ℕ
+total [] = 0
+total (w ∷ ws) = w + total ws
+
+span_total : (ws : List ℕ) (m : ℕ) → span_of ws m ≤ total ws
+unfolding total
+span_total [] m = omega arith
+span_total (w ∷ ws) m = let a = at_most (marked m) w in let b = span_total ws (m / 2) in omega arith
+
+-- no record has more than 58 bytes of fields
+pub span_small : (p : Phase) (m : ℕ) → span_of (map width (layout p)) m ≤ 58
+unfolding total
+span_small Types m = let h = span_total (8 ∷ 8 ∷ []) m in omega arith
+span_small Roles m = let h = span_total (8 ∷ []) m in omega arith
+span_small Groups m = let h = span_total (8 ∷ 8 ∷ []) m in omega arith
+span_small Views m = let h = span_total (1 ∷ 8 ∷ 8 ∷ 8 ∷ 1 ∷ 8 ∷ 8 ∷ 16 ∷ []) m in omega arith
+span_small Subjects m = let h = span_total (8 ∷ []) m in omega arith
 
 -- the fields before i are counted
 pub record Counted (ws : List ℕ) (m i size left : ℕ) : Type 0 where

@@ -1,12 +1,13 @@
 -- A reader that counts the records of the last kind knows as much as one that counts all.
-use Rattle.std.proofs.Common.{◌≡◌, ℕ, ◌+◌, ◌≤◌, cond, List, get_or, Some, None, Option, sym, refl, ap, ◌∙◌, ⊎_elim, arith}
+use Rattle.std.proofs.Common.{◌≡◌, ℕ, ◌+◌, ◌<◌, ◌≤◌, cond, List, get_or, Some, None, Option, sym, refl, ap, ◌∙◌, subst, ⊎_elim, arith}
 use Rattle.std.proofs.lemmas.List.{length_push}
 use Rattle.std.proofs.lemmas.Bool.{eq-eqb, ne_eqb, cases_eq}
 use Rattle.book.specs.declared.phase.Phase.{Phase}
 use Rattle.book.specs.declared.phase.Phase.TheVariants.{Types, Roles, Groups, Views, Subjects}
-use Rattle.book.specs.Layout.{kind_of, kind_named}
+use Rattle.book.specs.Layout.{kind_of, kind_named, limit}
 use Rattle.book.specs.declared.contents.Records.{Records}
 use Rattle.book.specs.Contents.{Record, AType, ARole, AGroup, AView, ASubject, nothing, count, filed, phase_of}
+use Rattle.book.specs.Declarations.{WithinLimits}
 use Rattle.book.specs.Form.{opened, cut_as, cut, extent}
 use Rattle.book.specs.FormLaws.{numbered}
 use Rattle.book.proofs.Cuts.{kind_named_lem, opened_kind}
@@ -58,6 +59,21 @@ count_other c (ASubject r) Roles n = refl
 count_other c (ASubject r) Groups n = refl
 count_other c (ASubject r) Views n = refl
 count_other c (ASubject r) Subjects n = absurd (n refl)
+
+pub within_none : WithinLimits nothing
+within_none Types = omega arith
+within_none Roles = omega arith
+within_none Groups = omega arith
+within_none Views = omega arith
+within_none Subjects = omega arith
+
+-- one record more, where there is room for it
+pub within_more : (c : Records) (r : Record) → WithinLimits c → count (phase_of r) c < limit (phase_of r) → WithinLimits (filed c r)
+within_more c r w l q =
+    ⊎_elim
+    (λ e. subst (λ q. count q (filed c r) ≤ limit q) (same_phase (phase_of r) q e) (let n = count_filed c r in omega arith))
+    (λ e. let n = count_other c r q e in let b = w q in omega arith)
+    (cases_eq (kind_of (phase_of r)) (kind_of q))
 
 numbered_same : (p : Phase) (n : ℕ) (q : Phase) → kind_of p ≡ kind_of q → numbered p n q ≡ n
 numbered_same p n q e = ap (λ t. cond t n 0) (eq-eqb (kind_of p) (kind_of q) e)

@@ -1,5 +1,5 @@
--- What records name: only what the book declares.
-use Rattle.std.specs.Prelude.{ℕ, ◌<◌, length, slice_index_or}
+-- What records name: only what the book declares. And how many there may be.
+use Rattle.std.specs.Prelude.{ℕ, ◌<◌, ◌≤◌, length, slice_index_or}
 use Rattle.sets.specs.Members.{In, none}
 use Rattle.records.specs.declared.TypeRecord.{TypeRecord}
 use Rattle.records.specs.declared.RoleRecord.{RoleRecord}
@@ -7,6 +7,9 @@ use Rattle.records.specs.declared.GroupRecord.{GroupRecord}
 use Rattle.records.specs.declared.View.{View}
 use Rattle.records.specs.declared.SubjectRecord.{SubjectRecord}
 use Rattle.book.specs.declared.contents.Records.{Records}
+use Rattle.book.specs.declared.phase.Phase.{Phase}
+use Rattle.book.specs.Layout.{limit}
+use Rattle.book.specs.Contents.{count}
 
 -- the type of a number; one with no link and no operation where none is declared
 abbrev pub type_at : Records → ℕ → TypeRecord
@@ -52,3 +55,7 @@ pub record Declares (c : Records) : Type 0 where
   pub required : (i k : ℕ) → In k (view_at c i).required → k < i
   pub restriction : (i k : ℕ) → In k (view_at c i).restriction → k < length c.roles
   pub groups : (i k : ℕ) → In k (subject_at c i).groups → k < length c.groups
+
+-- of no kind are there more records than there may be
+abbrev pub WithinLimits : Records → Type 0
+WithinLimits c = (p : Phase) → count p c ≤ limit p

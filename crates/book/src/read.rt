@@ -1,6 +1,6 @@
 //! Reading a whole book.
 ghost use Rattle.std.specs.Prelude.{◌≡◌, IfOk, Ok, Err, MatchResult};
-ghost use Rattle.book.specs.Declarations.{Declares};
+ghost use Rattle.book.specs.Declarations.{Declares, WithinLimits};
 ghost use Rattle.book.specs.Form.{opening, reading};
 ghost use Rattle.book.specs.Reading.{Told};
 ghost use Rattle.book.specs.FormLaws.{Exactly, PassesAsEncoded, PartsAreTheBook};
@@ -27,6 +27,7 @@ pub fn read(book: &[u8]) -> Result<Records, Fault>
     ensures records { MatchResult result (λ t. reading book.now ≡ Ok t) (λ f. reading book.now ≡ Err f) }
     ensures exactly { MatchResult result (λ t. Exactly book.now (Ok t)) (λ f. Exactly book.now (Err f)) }
     ensures declared { IfOk result (λ t. Declares t) }
+    ensures within { IfOk result (λ t. WithinLimits t) }
     ensures encoded { PassesAsEncoded }
     ensures parts { PartsAreTheBook }
 {

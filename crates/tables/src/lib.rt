@@ -49,6 +49,7 @@ impl<T: Copy, const N: usize> Table<T, N> {
         ensures room { IsOk result ↔ (length self.old < N) }
         ensures ok { OnOk result (self.new ≡ self.old ++ item ∷ []) }
         ensures err { OnErr result (self.new ≡ self.old) }
+        ensures within { length self.old ≤ N }
     {
         let at = self.len;
         if at >= N {
@@ -77,7 +78,8 @@ impl<T: Copy, const N: usize> Table<T, N> {
 
     /// The item of that number, if there is one.
     pub fn get(&self, number: usize) -> Option<T>
-        ensures { MatchOption result (length self.now ≤ number) (λ x. (number < length self.now) × ((d : T) → x ≡ slice_index_or self.now number d)) }
+        ensures item { MatchOption result (length self.now ≤ number) (λ x. (number < length self.now) × ((d : T) → x ≡ slice_index_or self.now number d)) }
+        ensures within { length self.now ≤ N }
     {
         self.as_slice().get(number).copied()
     }

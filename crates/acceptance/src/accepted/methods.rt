@@ -1,7 +1,7 @@
 //! Judging, loading and reading a book.
 ghost use Rattle.std.specs.Prelude.{◌≡◌, IfOk, Ok, Err, MatchResult};
 ghost use Rattle.book.specs.Contents.{nothing};
-ghost use Rattle.book.specs.Declarations.{Declares};
+ghost use Rattle.book.specs.Declarations.{Declares, WithinLimits};
 ghost use Rattle.acceptance.specs.Rules.{Rules};
 ghost use Rattle.acceptance.specs.Judgement.{Judged, OneJudgement, AcceptedByRules};
 ghost use Rattle.acceptance.specs.Laws.{Kept};
@@ -49,6 +49,7 @@ impl Book {
     pub fn records(&self) -> &Records
         ensures records { result.now ≡ self.now.records }
         ensures declared { Declares result.now }
+        ensures within { WithinLimits result.now }
         ensures rules { Rules result.now }
         ensures kept { Kept result.now }
     {

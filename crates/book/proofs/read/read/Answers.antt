@@ -4,12 +4,13 @@ use Rattle.book.specs.Layout.{limit, layout}
 use Rattle.book.specs.Contents.{nothing, count, filed, phase_of}
 use Rattle.book.specs.Form.{filing, after_opening, reading, pieces, record_from}
 use Rattle.book.specs.Reading.{Handed, Hands, passed}
-use Rattle.book.specs.Declarations.{Declares}
+use Rattle.book.specs.Declarations.{Declares, WithinLimits}
 use Rattle.book.specs.FormLaws.{Exactly, PassesAsEncoded, PartsAreTheBook}
 use Rattle.book.specs.declared.refusal.Fault.{Fault}
 use Rattle.book.specs.declared.contents.Records.{Records}
 use Rattle.book.proofs.Mapped.{told_ok, told_err}
 use Rattle.book.proofs.Declaring.{declares}
+use Rattle.book.proofs.Tracking.{within_none, within_more}
 use Rattle.book.proofs.Encoded.{passes_as_encoded, exactly}
 use Rattle.book.proofs.Fieldwise.{phase_from}
 use Rattle.book.proofs.Parts.{parts_are_the_book}
@@ -23,6 +24,7 @@ refused : (book : List ℕ) → ((i : ℕ) → Fits w8 (get_or book i 0)) → (r
       records : MatchResult r (λ t. reading book ≡ Ok t) (λ f. reading book ≡ Err f);
       exactly : MatchResult r (λ t. Exactly book (Ok t)) (λ f. Exactly book (Err f));
       declared : IfOk r (λ t. Declares t);
+      within : IfOk r (λ t. WithinLimits t);
       encoded : PassesAsEncoded;
       parts : PartsAreTheBook;
     }
@@ -30,6 +32,7 @@ refused book bytes r f e read = record {
   records = subst (λ r. MatchResult r (λ t. reading book ≡ Ok t) (λ f. reading book ≡ Err f)) (sym e) read;
   exactly = subst (λ r. MatchResult r (λ t. Exactly book (Ok t)) (λ f. Exactly book (Err f))) (sym e) (exactly book bytes (Err f) read);
   declared = subst (λ r. IfOk r (λ t. Declares t)) (sym e) tt;
+  within = subst (λ r. IfOk r (λ t. WithinLimits t)) (sym e) tt;
   encoded = passes_as_encoded;
   parts = parts_are_the_book;
 }
@@ -41,6 +44,7 @@ loop-part-init c =
       c.new-reader.ensures.0,
       going_there book (reading book) (front book) r.position nothing c.empty-records.result (sym c.new-reader.ensures.1) (sym c.empty-records.ensures)
           (begins book (told_ok _ c.check_opening.result c.map_err.result _ _ c.map_err.ensures.cases c.check_opening.ensures _ c.in_ok-map_err.was).0),
+      subst WithinLimits (sym c.empty-records.ensures) within_none,
     )
 
 pub returns-in_err-map_err : goal.returns-in_err-map_err
@@ -99,10 +103,12 @@ loop-part-preserved c =
     let told = told_ok _ c.made_of.result c.map_err-in-Some.result _ _ c.map_err-in-Some.ensures.cases c.made_of.ensures _ c.in_ok-record.was in
     let fs = pieces (layout part.phase) (get_or part.bytes.now 1 0) (drop 2 part.bytes.now) in
     let r = record_from part.phase part.place fs in
+    let room = subst (λ q. count q all < limit q) (sym (phase_from part.phase part.place fs)) (part_room book s all (reading book) c.loop-part.invariant.1 part.phase part.place part.bytes.now h.0) in
     let filed_is : c.file.new.self ≡ filed all r = c.file.ensures ∙ ap (filed all) told.1 in (
       c.next.ensures.book ∙ c.loop-part.invariant.0,
       going_there book (reading book) (passed s part.phase part.bytes.now) c.next.new.self.position (filed all r) c.file.new.self (sym h.1) (sym filed_is)
           (goes_on book s all (reading book) c.loop-part.invariant.1 part.phase part.place part.bytes.now h.0 told.0),
+      subst WithinLimits (sym filed_is) (within_more all r c.loop-part.invariant.2 room),
     )
 
 pub returns-in_err-record : goal.returns-in_err-record
@@ -130,6 +136,7 @@ returns c =
       records = read;
       exactly = exactly book c.type_inv.book (Ok all) read;
       declared = declares book all read;
+      within = c.loop-part.invariant.2;
       encoded = passes_as_encoded;
       parts = parts_are_the_book;
     }

@@ -16,7 +16,10 @@ pub invariant_of-result : goal.invariant_of-result
 invariant_of-result g c =
     let all = c.in_ok-records.records in
     let declared = c.in_ok-records.ensures.declared in
-    record { accepted = ∣ (declared, passes_rules all declared (checked_none _ _ c.in_ok-check.was (checks all) c.check.ensures)) ∣₁ }
+    record {
+      accepted = ∣ (declared, passes_rules all declared (checked_none _ _ c.in_ok-check.was (checks all) c.check.ensures)) ∣₁;
+      within = c.in_ok-records.ensures.within;
+    }
 
 pub returns-clause-judged : goal.returns-clause-judged
 unfolding Checked
