@@ -1,5 +1,5 @@
 //! A book's records, and whether it is accepted or why it is refused, as text.
-ghost use Rattle.listing.specs.JudgedReports.{JudgedReports};
+ghost use Rattle.listing.specs.JudgedReports.{JudgedReports, HoldsWithinLimits};
 
 use crate::listed::Listed;
 use crate::refused::Explained;
@@ -26,7 +26,8 @@ pub enum JudgedReport {
 
 /// Reads and judges a book, to be reported on.
 pub fn judged_report_on(book: &[u8]) -> JudgedReport
-    ensures { JudgedReports result book.now }
+    ensures reports { JudgedReports result book.now }
+    ensures within { HoldsWithinLimits result }
 {
     // Three outcomes come from two results, so no combinator is plainer than this match.
     match Book::judge::<Kept>(book) {

@@ -1,4 +1,6 @@
 //! A book's records, or why its form is refused, as text.
+ghost use Rattle.std.specs.Prelude.{IfOk};
+ghost use Rattle.book.specs.Declarations.{WithinLimits};
 ghost use Rattle.listing.specs.Reports.{Reports};
 
 use crate::listed::Listed;
@@ -16,7 +18,8 @@ pub struct Report {
 
 /// Reads a book, to be reported on.
 pub fn report_on(book: &[u8]) -> Report
-    ensures { Reports result book.now }
+    ensures reports { Reports result book.now }
+    ensures within { IfOk result.outcome (λ t. WithinLimits t) }
 {
     Report {
         outcome: read(book),
