@@ -6,7 +6,7 @@ use Rattle.std.proofs.lemmas.Bool.{cases_eq}
 use Rattle.sets.specs.declared.NumberSet.{NumberSet}
 use Rattle.sets.specs.Members.{In, Iff}
 use Rattle.hierarchy.specs.Order.{links_of, Falling, Steps, here, up, Below}
-use Rattle.hierarchy.specs.Paths.{steps_le, steps_from, below_refl, below_trans}
+use Rattle.hierarchy.specs.Paths.{steps_from, below_refl, below_trans}
 use Rattle.hierarchy.proofs.Paths.{below_link}
 
 -- a set into which one number was put has that one alone
@@ -53,14 +53,6 @@ walk_done links a i seen z w k =
     let e : i ≡ 0 = omega arith in
     let v : Walk links a 0 seen = subst (λ y. Walk links a y seen) e w in
     (w.right k, λ p. ∥∥₁_elim p (ℕ_set _ _) (gathered v w.start))
-
-reached : {links : List NumberSet} {a i k : ℕ} {seen : NumberSet} {x : ℕ} → Falling links → Walk links a i seen → i ≤ k → In x seen → Steps links x k → In k seen
-reached f w l p (here m) = p
-reached f w l p (up {a = x} {b = y} e r) = let d = steps_le f (up e r) in reached f w l (w.closed x y (omega arith) p e) r
-
--- a walk that has come down to i has gathered all from there up
-pub walk_from : (links : List NumberSet) (a i : ℕ) (seen : NumberSet) → Falling links → Walk links a i seen → (k : ℕ) → i ≤ k → Iff (In k seen) (Below links a k)
-walk_from links a i seen f w k l = (w.right k, λ p. ∥∥₁_elim p (ℕ_set _ _) (reached f w l w.start))
 
 -- nothing is at or above a number that is not declared
 pub walk_none : (links : List NumberSet) (a : ℕ) (seen : NumberSet) → length links ≤ a → ((k : ℕ) → In k seen → ⊥) → (k : ℕ) → Iff (In k seen) (Below links a k)

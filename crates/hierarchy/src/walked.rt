@@ -1,5 +1,5 @@
 //! The order that walks the links at each question.
-ghost use Rattle.std.specs.Prelude.{ℕ, ◌≤◌, length};
+ghost use Rattle.std.specs.Prelude.{ℕ, length};
 ghost use Rattle.sets.specs.Members.{In, Iff};
 ghost use Rattle.hierarchy.specs.Order.{Below};
 ghost use Rattle.hierarchy.specs.Linking.{linked};
@@ -16,9 +16,9 @@ pub struct Walked {
     links: Links,
 }
 
-/// The numbers at or above a number, as far down as the least that is asked for; none where it is not declared.
-fn above(links: &Links, number: usize, least: usize) -> NumberSet
-    ensures { (k : ℕ) → least ≤ k → Iff (In k result) (Below (linked links.now) number k) }
+/// The numbers at or above a number; none where it is not declared.
+fn above(links: &Links, number: usize) -> NumberSet
+    ensures { (k : ℕ) → Iff (In k result) (Below (linked links.now) number k) }
 {
     let mut seen = NumberSet::empty();
     if number >= links.len() {
@@ -26,7 +26,7 @@ fn above(links: &Links, number: usize, least: usize) -> NumberSet
     }
     seen.insert(number);
     // An iterator over the members is no plainer, since the set grows on the way.
-    for i in (least..number + 1).rev() {
+    for i in (0..number + 1).rev() {
         if seen.contains(i) {
             seen = seen.union(links.above(i));
         }
@@ -52,7 +52,7 @@ impl Hierarchy for Walked {
     }
 
     fn at_or_below(&self, a: usize, b: usize) -> bool {
-        // A number that is linked directly needs no walk.
-        self.links.above(a).contains(b) || above(&self.links, a, b).contains(b)
+        // Links lead to lower numbers, and a number that is linked directly needs no walk.
+        b <= a && (self.links.above(a).contains(b) || above(&self.links, a).contains(b))
     }
 }

@@ -2,11 +2,11 @@ use Rattle.std.proofs.Common.{◌<◌, arith}
 use Rattle.std.proofs.lemmas.Bool.{both_ways}
 use Rattle.hierarchy.specs.Linking.{linked}
 use Rattle.hierarchy.specs.LinkingLemmas.{length_linked, falling}
-use Rattle.hierarchy.proofs.Walks.{only, walk_start, walk_take, walk_pass, walk_from, walk_none}
+use Rattle.hierarchy.proofs.Walks.{only, walk_start, walk_take, walk_pass, walk_done, walk_none}
 use Rattle.hierarchy.proofs.walked.above.Goals as goal
 
 pub returns-then-number-len : goal.returns-then-number-len
-returns-then-number-len c k l = walk_none (linked c.args.links.now) c.args.number c.empty-seen.result (omega arith) c.empty-seen.ensures.members k
+returns-then-number-len c = walk_none (linked c.args.links.now) c.args.number c.empty-seen.result (omega arith) c.empty-seen.ensures.members
 
 pub loop-i-init : goal.loop-i-init
 loop-i-init c =
@@ -27,6 +27,4 @@ loop-i-preserved c =
     walk_pass (linked c.args.links.now) c.args.number c.loop-i.i c.loop-i.seen (omega arith) c.loop-i.invariant (λ h. both_ways c.contains.result c.if-contains.false (c.contains.ensures.1 h))
 
 pub returns : goal.returns
-returns c k l =
-    let links = c.args.links.now in
-    walk_from (linked links) c.args.number c.loop-i.i c.loop-i.seen (falling links) c.loop-i.invariant k (omega arith)
+returns c = walk_done (linked c.args.links.now) c.args.number c.loop-i.i c.loop-i.seen (omega arith) c.loop-i.invariant
